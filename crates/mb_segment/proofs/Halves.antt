@@ -1,0 +1,92 @@
+-- What passes have begun, roles, free positions, and the accounts of passes that came back.
+use Rattle.mb_segment.proofs.Base.{Bool, List, None, Option, [], ap, arith, false, get_elem?, inl, inr, refl}
+use Rattle.mb_segment.proofs.Base.{replicate, set_else, set_here, slice_set, some, some-injective, subst, suc}
+use Rattle.mb_segment.proofs.Base.{sym, true, zero, ℕ, ℕ_discrete, ◌<◌, ◌∙◌, ◌∷◌, ◌≡◌, ◌⊎◌}
+use Rattle.mb_segment.specs.Vocabulary.{Account, Half, HasHalf, History, In, Issuer, Match, Member, Nothing}
+use Rattle.mb_segment.specs.Vocabulary.{Reads, Role, Spent, Spot, View, Writes, free, got_by, if_hub}
+use Rattle.mb_segment.specs.Vocabulary.{one_if_member, or, sent_by}
+use Rattle.mb_segment.proofs.Totals.{there}
+
+pub free_open : (cut undrawn : ℕ) → cut ≡ 0 → free cut undrawn ≡ undrawn
+free_open zero undrawn e = refl
+free_open (suc c) undrawn e = absurd (omega arith)
+
+pub free_shut : (cut undrawn : ℕ) → 0 < cut → free cut undrawn ≡ 0
+free_shut zero undrawn e = absurd (omega arith)
+free_shut (suc c) undrawn e = refl
+
+pub no_hub : (r : Role) → r ≡ Member → r ≡ Issuer → ⊥
+no_hub r m h = let e : one_if_member Member ≡ one_if_member Issuer = ap one_if_member (sym m ∙ h) in omega arith
+
+pub no_spent : (r : Role) → r ≡ Member → r ≡ Spent → ⊥
+no_spent r m h = let e : one_if_member Member ≡ one_if_member Spent = ap one_if_member (sym m ∙ h) in omega arith
+
+pub hub_is_not_spent : (r : Role) → r ≡ Issuer → r ≡ Spent → ⊥
+hub_is_not_spent r a b =
+    let e : if_hub Issuer 1 ≡ if_hub Spent 1 = ap (λ (x : Role). if_hub x 1) (sym a ∙ b) in omega arith
+
+pub hub_is_no_member : Issuer ≡ Member → ⊥
+hub_is_no_member e = no_hub Member refl (sym e)
+
+pub spent_is_no_member : Spent ≡ Member → ⊥
+spent_is_no_member e = no_spent Member refl (sym e)
+
+pub either_over : (a b : Bool) → or a b ≡ true → (a ≡ true) ⊎ (b ≡ true)
+either_over true b e = inl refl
+either_over false b e = inr e
+
+-- the slots of a new segment
+abbrev pub empty_slots : (T : Type 0) → ℕ → List (Option T)
+empty_slots T count = replicate count None
+
+module _ {T : Type 0} where
+  abbrev kind : Half T → ℕ
+  kind Nothing = 0
+  kind (Writes s) = 1
+  kind (Reads s) = 2
+
+  abbrev place : Half T → ℕ
+  place Nothing = 0
+  place (Writes s) = s.at
+  place (Reads s) = s.at
+
+  pub no_writes : (x : Half T) (s : Spot T) → x ≡ Nothing → x ≡ Writes s → ⊥
+  no_writes x s p q = let e : kind Nothing ≡ kind (Writes s) = ap kind (sym p ∙ q) in omega arith
+
+  pub no_reads : (x : Half T) (s : Spot T) → x ≡ Nothing → x ≡ Reads s → ⊥
+  no_reads x s p q = let e : kind Nothing ≡ kind (Reads s) = ap kind (sym p ∙ q) in omega arith
+
+  pub not_both : (x : Half T) (r s : Spot T) → x ≡ Writes r → x ≡ Reads s → ⊥
+  not_both x r s p q = let e : kind (Writes r) ≡ kind (Reads s) = ap kind (sym p ∙ q) in omega arith
+
+  pub writes_one : (x : Half T) (r s : Spot T) → x ≡ Writes r → x ≡ Writes s → r.at ≡ s.at
+  writes_one x r s p q = ap place (sym p ∙ q)
+
+  pub reads_one : (x : Half T) (r s : Spot T) → x ≡ Reads r → x ≡ Reads s → r.at ≡ s.at
+  reads_one x r s p q = ap place (sym p ∙ q)
+
+  -- what another has begun stays, where the step's own pass had begun something else
+  pub half_else : (views : List (View T)) (n : ℕ) (v w : View T) → get_elem? views n ≡ some v → (j : ℕ)
+      (half : Half T)
+      → (v.half ≡ half → ⊥) → HasHalf views j half → HasHalf (slice_set views n w) j half
+  half_else views n v w at j half other has = go (ℕ_discrete j n)
+    where
+      go : Dec (j ≡ n) → HasHalf (slice_set views n w) j half
+      go (yes q) =
+          let v_is : v ≡ has.0 = some-injective v has.0
+          (sym at ∙ subst (λ (i : ℕ). get_elem? views i ≡ some has.0) q has.1) in
+          absurd (other (ap (λ (u : View T). u.half) v_is ∙ has.2))
+      go (no ne) = (has.0, set_else views n j w ne ∙ has.1, has.2)
+
+  pub half_here : (views : List (View T)) (n : ℕ) (v w : View T) → get_elem? views n ≡ some v → (half : Half T)
+      → w.half ≡ half → HasHalf (slice_set views n w) n half
+  half_here views n v w at half e = (w, set_here views n w (there views n v at), e)
+
+  pub match_kept : (h g : History T) (roll : List ℕ) (as_ : List (Account T))
+      → ((j : ℕ) → In j roll → (sent_by j g ≡ sent_by j h) × (got_by j g ≡ got_by j h)) → Match h roll as_
+      → Match g roll as_
+  match_kept h g [] [] all m = tt
+  match_kept h g [] (a ∷ more) all m = absurd m
+  match_kept h g (j ∷ js) [] all m = absurd m
+  match_kept h g (j ∷ js) (a ∷ more) all m = let o = all j (inl refl) in
+      (m.0 ∙ sym o.0, m.1 ∙ sym o.1, match_kept h g js more (λ i in_. all i (inr in_)) m.2)

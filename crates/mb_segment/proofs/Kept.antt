@@ -1,0 +1,349 @@
+-- What a step has to show, so that the rule holds after it.
+use Rattle.mb_segment.proofs.Base.{Act, Allows, List, Option, Some, State, Valid, [], ap, arith, at_set}
+use Rattle.mb_segment.proofs.Base.{carried_after, either, exchanged, get_elem?, inl, inr, keeps, length, refl}
+use Rattle.mb_segment.proofs.Base.{set_again, set_else, set_here, slice_index, slice_set, some}
+use Rattle.mb_segment.proofs.Base.{some-injective, stepped, subst, sym, true, ℕ, ℕ_discrete, ⊎_elim, ◌*◌, ◌+◌}
+use Rattle.mb_segment.proofs.Base.{◌-◌, ◌<◌, ◌==◌, ◌∙◌, ◌∷◌, ◌≡◌, ◌≢◌, ◌≤◌}
+use Rattle.mb_segment.specs.Vocabulary.{Account, Duty, Fits, Half, HalfFits, HasHalf, History, Homes, Keeps}
+use Rattle.mb_segment.specs.Vocabulary.{Match, Quiet, Reads, Sat, Shut, Sight, Taken, Undrawn, View, Waiting}
+use Rattle.mb_segment.specs.Vocabulary.{Writes, closing, drawn, free, got_by, if_hub, listed, member}
+use Rattle.mb_segment.specs.Vocabulary.{one_if_member, out, owed, sent_by, sleeping, spot, taken, total}
+use Rattle.mb_segment.proofs.Totals.{asleep_listed, length_set, there, total_set}
+use lib.Seq.{set-get_or}
+
+abbrev pub St : Type 0 → Type 0
+St T = State (Option T) (View T)
+
+-- what a step may change beside the view of its pass
+pub record Next (T : Type 0) : Type 0 where
+  pub history : History T
+  pub words : List ℕ
+  pub states : List ℕ
+  pub homes : Homes T
+  pub tokens : ℕ
+  pub waiting : ℕ
+  pub cut : ℕ
+
+abbrev pub free_in : {T : Type 0} → History T → List ℕ → ℕ → ℕ
+free_in h states cut = free cut (length states - drawn h)
+
+module _ {T : Type 0} where
+  -- the lists of other passes are the same
+  abbrev pub Same : History T → History T → ℕ → Type 0
+  Same h g n = (j : ℕ) → j ≢ n → (sent_by j g ≡ sent_by j h) × (got_by j g ≡ got_by j h)
+
+  abbrev pub now : (s : St T) → Keeps s → Next T
+  now s k = record {
+    history = k.history;
+    words = s.words;
+    states = k.states;
+    homes = s.homes;
+    tokens = k.tokens;
+    waiting
+        = k.waiting;
+    cut = k.cut;
+  }
+
+  abbrev pub after : St T → Next T → ℕ → View T → St T
+  after s x n w = record { words = x.words; homes = x.homes; views = slice_set s.views n w }
+
+  -- what the step does to the sums of all views keeps the laws of sleep. L sleep, O is owed, C by closers
+  abbrev pub Laws : (s : St T) → Keeps s → View T → View T → Next T → Type 0
+  Laws s k v w x =
+      (L O C L' O' C' : ℕ) → L' + v.duty.asleep ≡ L + w.duty.asleep → O' + owed v ≡ O + owed w
+      → C' + v.duty.closing ≡ C + w.duty.closing → L' ≤ x.tokens + x.waiting
+      → Quiet (length k.history.rest) k.tokens L O → Shut k.tokens L (free_in k.history k.states k.cut) C
+      → Quiet (length x.history.rest) x.tokens L' O' × Shut x.tokens L' (free_in x.history x.states x.cut) C'
+
+  pub record Keeping (s : St T) (k : Keeps s) (n : ℕ) (v w : View T) (x : Next T) : Type 0 where
+    pub words : x.words
+        ≡ (drawn x.history + 9223372036854775808 * x.cut) ∷ taken x.history ∷
+        (x.tokens + 4294967296 * x.waiting) ∷ x.states
+    pub narrow : x.tokens < 4294967296
+    pub sized : length x.states ≡ length x.homes
+    pub as_many : length x.states ≡ length k.states
+    pub within : drawn x.history ≤ length x.states
+    pub drawn_ : drawn k.history ≤ drawn x.history
+    pub more : taken k.history ≤ taken x.history
+    pub cut_ : k.cut ≤ x.cut
+    pub marks : (j : ℕ) → get_elem? k.states j ≢ some 0 → get_elem? x.states j ≢ some 0
+    pub undrawn : Undrawn x.history x.states x.homes
+    pub waits : Waiting x.history (slice_set s.views n w) x.states x.homes
+    pub taken_ : Taken x.history (slice_set s.views n w) x.states x.homes
+    pub counted : listed w + (k.tokens + k.waiting) ≡ listed v + (x.tokens + x.waiting)
+    pub over : free_in k.history k.states k.cut ≡ 0 → k.history.rest ≡ [] → (free_in x.history x.states x.cut ≡ 0)
+        × (x.history.rest ≡ [])
+    pub role : w.role ≡ v.role
+    pub out_ : w.out ≡ v.out
+    pub same : Same k.history x.history n
+    pub idle : (sent_by k.hub x.history ≡ []) × (got_by k.hub x.history ≡ [])
+    pub roll : (as_ : List (Account T)) → Match k.history k.roll as_ → Match x.history k.roll as_
+    pub halves : (j : ℕ) (half : Half T) → j ≢ n → HalfFits k.history k.states j half
+        → HalfFits x.history x.states j half
+    pub own : Fits x.history x.states x.cut k.hub k.roll n w
+    pub laws : Laws s k v w x
+
+  -- the view of another pass still fits
+  others_fit : (s : St T) (k : Keeps s) (n : ℕ) (v w : View T) (x : Next T) → Keeping s k n v w x → (j : ℕ)
+      (u : View T) → j ≢ n
+      → Fits k.history k.states k.cut k.hub k.roll j u → Fits x.history x.states x.cut k.hub k.roll j u
+  others_fit s k n v w x o j u apart f = record {
+    member = λ r. let m = f.member r in record {
+      sent = m.sent ∙ sym (o.same j apart).0;
+      got = m.got ∙ sym (o.same j apart).1;
+      no_hub = m.no_hub;
+      not_back = m.not_back;
+    };
+    hub_ = λ r. let m = f.hub_ r in record { here = m.here; ends = o.roll u.ends m.ends; nothing = m.nothing };
+    back = f.back;
+    half = o.halves j u.half apart f.half;
+    low = let l = f.low in let m = o.more in omega arith;
+    ripe = λ i e. let r = f.ripe i e in let m = o.as_many in (omega arith, o.marks i r.1);
+    full = λ e. let r = f.full e in let m = o.as_many in let d = o.drawn_ in let i = o.within in omega arith;
+    cut_ = λ e. let r = f.cut_ e in let m = o.cut_ in omega arith;
+    over = λ e. let r = f.over e in o.over r.0 r.1;
+  }
+
+  pub moved : (s : St T) (k : Keeps s) (n : ℕ) (v w : View T) (x : Next T) → get_elem? s.views n ≡ some v
+      → Keeping s k n v w x
+      → Keeps (after s x n w)
+  moved s k n v w x at o =
+      let views' = slice_set s.views n w in
+      let l = total_set listed s.views n v w at in
+      let c₀ = k.counted in
+      let c₁ = o.counted in
+      let counted' : total listed views' ≡ x.tokens + x.waiting = omega arith in
+      let under = asleep_listed views' in
+      let laws' = o.laws (total sleeping s.views) (total owed s.views) (total closing s.views)
+      (total sleeping views') (total owed views') (total closing views')
+      (total_set sleeping s.views n v w at) (total_set owed s.views n v w at)
+      (total_set closing s.views n v w at)
+      (omega arith) k.quiet k.shut in
+      let many = length_set s.views n w in
+      let here = there s.views n v at in
+      let small' = k.small in
+      let as_many' = o.as_many in
+      record {
+        history = x.history;
+        states = x.states;
+        tokens = x.tokens;
+        waiting = x.waiting;
+        cut = x.cut;
+        words = o.words;
+        narrow = o.narrow;
+        sized = o.sized;
+        small = omega arith;
+        within = o.within;
+        undrawn = o.undrawn;
+        waits = o.waits;
+        taken_ = o.taken_;
+        counted = counted';
+        quiet = laws'.0;
+        shut = laws'.1;
+        hub = k.hub;
+        roll = k.roll;
+        idle = o.idle;
+        apart = k.apart;
+        rolled = λ j in_. let b = k.rolled j in_ in omega arith;
+        known = let b = k.known in omega arith;
+        out_ =
+            let a = total_set member s.views n v w at in let b = total_set out s.views n v w at in
+            let p : member w ≡ member v = ap one_if_member o.role in
+            let q : out w ≡ out v = λ i. if_hub (o.role i) (o.out_ i) in
+            let e = k.out_ in omega arith;
+        newborn = λ j long. (
+            let apart : j ≢ n = λ q. omega arith in
+            let nb = k.newborn j (omega arith) in
+            ((o.same j apart).0 ∙ nb.0, (o.same j apart).1 ∙ nb.1)
+            );
+        fits = λ j u e. ⊎_elim
+            (λ (t : (j ≡ n) × (w ≡ u)). subst (λ (y : ℕ × View T). Fits x.history x.states x.cut k.hub k.roll y.0
+            y.1)
+            (λ i. (sym t.0 i, t.1 i)) o.own)
+            (λ (t : (j ≢ n) × (get_elem? s.views j ≡ some u)). others_fit s k n v w x o j u t.0 (k.fits j u t.1))
+            (at_set s.views n j w u e);
+      }
+
+  -- ---- steps that draw, claim, mark and read nothing
+  -- who has begun something still has, where the step's view keeps it
+  pub half_stays : (views : List (View T)) (n : ℕ) (v w : View T) → get_elem? views n ≡ some v → w.half ≡ v.half
+      → (j : ℕ) (half : Half T)
+      → HasHalf views j half → HasHalf (slice_set views n w) j half
+  half_stays views n v w at e j half has = go (ℕ_discrete j n)
+    where
+      go : Dec (j ≡ n) → HasHalf (slice_set views n w) j half
+      go (yes q) =
+          let v_is : v ≡ has.0 = some-injective v has.0
+          (sym at ∙ subst (λ (i : ℕ). get_elem? views i ≡ some has.0) q has.1) in (
+            w,
+            subst (λ (i : ℕ). get_elem? (slice_set views n w) i ≡ some w) (sym q)
+                (set_here views n w (there views n v at)),
+            e ∙ (ap (λ (u : View T). u.half) v_is ∙ has.2),
+          )
+      go (no ne) = (has.0, set_else views n j w ne ∙ has.1, has.2)
+
+  pub record Steady (s : St T) (k : Keeps s) (n : ℕ) (v w : View T) (x : Next T) : Type 0 where
+    pub words : x.words
+        ≡ (drawn k.history + 9223372036854775808 * x.cut) ∷ taken k.history ∷
+        (x.tokens + 4294967296 * x.waiting) ∷ k.states
+    pub narrow : x.tokens < 4294967296
+    pub cut_ : k.cut ≤ x.cut
+    pub counted : listed w + (k.tokens + k.waiting) ≡ listed v + (x.tokens + x.waiting)
+    pub over : free_in k.history k.states k.cut ≡ 0 → free_in k.history k.states x.cut ≡ 0
+    pub role : w.role ≡ v.role
+    pub out_ : w.out ≡ v.out
+    pub half : w.half ≡ v.half
+    pub own : Fits k.history k.states x.cut k.hub k.roll n w
+    pub laws : Laws s k v w record x { history = k.history; states = k.states; homes = s.homes }
+
+  pub steady : (s : St T) (k : Keeps s) (n : ℕ) (v w : View T) (x : Next T) → get_elem? s.views n ≡ some v
+      → Steady s k n v w x
+      → Keeps (after s record x { history = k.history; states = k.states; homes = s.homes } n w)
+  steady s k n v w x at o = moved s k n v w record x { history = k.history; states = k.states; homes = s.homes }
+      at record {
+        words = o.words;
+        narrow = o.narrow;
+        sized = k.sized;
+        as_many = refl;
+        within = k.within;
+        drawn_ = omega arith;
+        more = omega arith;
+        cut_ = o.cut_;
+        marks = λ j ne. ne;
+        undrawn = k.undrawn;
+        waits = λ i e le e_at. ⊎_elim (λ z. inl (
+          z.0,
+          half_stays s.views n v w at o.half e.by
+              (Writes (spot i e.value)) z.1,
+        )) (λ z. inr z) (k.waits i e le e_at);
+        taken_ = λ i c c_at. ⊎_elim (λ z. inl (
+          z.0,
+          half_stays s.views n v w at o.half c.to
+              (Reads (spot i c.entry.value)) z.1,
+        )) (λ z. inr z) (k.taken_ i c c_at);
+        counted = o.counted;
+        over = λ f e. (o.over f, e);
+        role = o.role;
+        out_ = o.out_;
+        same = λ j ne. (refl, refl);
+        idle = k.idle;
+        roll = λ as_ m. m;
+        halves = λ j half ne f. f;
+        own = o.own;
+        laws = o.laws;
+      }
+
+  -- the same where no word changes
+  pub settled : (s : St T) (k : Keeps s) (n : ℕ) (v w : View T) → get_elem? s.views n ≡ some v → listed w
+      ≡ listed v → w.role ≡ v.role
+      → w.out ≡ v.out → w.half ≡ v.half → Fits k.history k.states k.cut k.hub k.roll n w → Laws s k v w (now s k)
+      → Keeps record { words = s.words; homes = s.homes; views = slice_set s.views n w }
+  settled s k n v w at li ro ou ha own laws = steady s k n v w (now s k) at record {
+    words = k.words;
+    narrow = k.narrow;
+    cut_ = omega arith;
+    counted = omega arith;
+    over = λ e. e;
+    role = ro;
+    out_ = ou;
+    half = ha;
+    own = own;
+    laws = laws;
+  }
+
+  -- ---- a view that differs in what it owes alone
+  abbrev pub Plain : View T → View T → Type 0
+  Plain v w = (w.role ≡ v.role) × (w.account ≡ v.account) × (w.half ≡ v.half) × (w.sight ≡ v.sight)
+      × (w.over ≡ v.over) × (w.ends ≡ v.ends)
+
+  pub refit : (h : History T) (states : List ℕ) (cut hub : ℕ) (roll : List ℕ) (n : ℕ) (v w : View T) → Plain v w
+      → Fits h states cut hub roll n v → Fits h states cut hub roll n w
+  refit h states cut hub roll n v w p f = record {
+    member = λ r. let m = f.member (sym p.0 ∙ r) in record {
+      sent = ap (λ (a : Account T). a.sent) p.1 ∙ m.sent;
+      got = ap (λ (a : Account T). a.got) p.1 ∙ m.got;
+      no_hub = m.no_hub;
+      not_back = m.not_back;
+    };
+    hub_ = λ r. let m = f.hub_ (sym p.0 ∙ r) in record {
+      here = m.here;
+      ends = subst (λ (as_ : List (Account T)). Match h roll as_) (sym p.5) m.ends;
+      nothing = p.2 ∙ m.nothing;
+    };
+    back = λ r. let m = f.back (sym p.0 ∙ r) in (m.0, p.2 ∙ m.1);
+    half = subst (λ (x : Half T). HalfFits h states n x) (sym p.2) f.half;
+    low = subst (λ (x : Sight). x.low ≤ taken h) (sym p.3) f.low;
+    ripe = λ i e. f.ripe i (sym (ap (λ (x : Sight). x.ripe) p.3) ∙ e);
+    full = λ e. f.full (sym (ap (λ (x : Sight). x.full) p.3) ∙ e);
+    cut_ = λ e. f.cut_ (sym (ap (λ (x : Sight). x.cut) p.3) ∙ e);
+    over = λ e. f.over (sym p.4 ∙ e);
+  }
+
+  -- a view that saw something more
+  pub sighted : (h : History T) (states : List ℕ) (cut hub : ℕ) (roll : List ℕ) (n : ℕ) (v : View T) (x : Sight)
+      → Fits h states cut hub roll n v → x.low ≤ taken h
+      → ((i : ℕ) → x.ripe ≡ Some i → (i < length states) × (get_elem? states i ≢ some 0))
+      → (x.full ≡ true → drawn h ≡ length states) → (x.cut ≡ true → 0 < cut)
+      → Fits h states cut hub roll n record v { sight = x }
+  sighted h states cut hub roll n v x f low ripe full cut_ = record {
+    member = λ r. let m = f.member r in
+        record { sent = m.sent; got = m.got; no_hub = m.no_hub; not_back = m.not_back };
+    hub_ = λ r. let m = f.hub_ r in record { here = m.here; ends = m.ends; nothing = m.nothing };
+    back = f.back;
+    half = f.half;
+    low = low;
+    ripe = ripe;
+    full = full;
+    cut_ = cut_;
+    over = f.over;
+  }
+
+  -- the same words, and nothing owed: the laws of sleep still hold
+  pub at_rest : (s : St T) (k : Keeps s) (v w : View T) → w.duty ≡ v.duty → Laws s k v w (now s k)
+  at_rest s k v w e L O C L' O' C' l o c le q h =
+      let e₀ = ap (λ (d : Duty). d.asleep) e in
+      let e₁ = ap (λ (d : Duty). d.wakes + d.looks + d.fresh + d.closing) e in
+      let e₂ = ap (λ (d : Duty). d.closing) e in (
+        ⊎_elim (λ y. inl (omega arith)) (λ y. inr (omega arith)) q,
+        ⊎_elim (λ y. inl (omega arith)) (λ y. inr (omega arith)) h,
+      )
+
+  -- ---- the state after a load, and after a step that changes nothing
+  pub loaded : (s : St T) (i n : ℕ) (c : List (ℕ × Option T)) (w : View T)
+      → Keeps record { words = s.words; homes = s.homes; views = slice_set s.views n w }
+      → Keeps (stepped s i (slice_index s.words i) n c w keeps)
+  loaded s i n c w k =
+      subst (λ (ws : List ℕ). Keeps record { words = ws; homes = s.homes; views = slice_set s.views n w })
+      (sym (set-get_or s.words i 0)) k
+
+  pub stays : (s : St T) (k : Keeps s) (i n : ℕ) (v : View T) → get_elem? s.views n ≡ some v
+      → (c : List (ℕ × Option T))
+      → Keeps (stepped s i (slice_index s.words i) n c v keeps)
+  stays s k i n v at c = loaded s i n c v
+      (subst (λ (vs : List (View T)). Keeps record { words = s.words; homes = s.homes; views = vs })
+      (sym (set_again s.views n v at)) k)
+
+  abbrev pub Goes : St T → ℕ → ℕ → Sat T → (ℕ → Sat T → Type 0) → ℕ → Type 0
+  Goes s i n me then m = (w : View T) × (a : Act (Option T)) × Valid s.homes me.1 a × Keeps
+      (stepped s i m n me.1 w a)
+      × then (slice_index s.words i) (w, carried_after me.1 a)
+
+  -- a compare-exchange goes as it should if it succeeds, and else changes nothing
+  pub exchanges : (i : ℕ) (then : ℕ → Sat T → Type 0) (slots n : ℕ) (me : Sat T) (old new : ℕ)
+      → ((s : St T) (k : Keeps s) → length s.homes ≡ slots → get_elem? s.views n ≡ some me.0
+      → slice_index s.words i ≡ old → Goes s i n me then new)
+      → ((r : ℕ) → r ≢ old → then r me)
+      → Allows Keeps slots n me i (λ r. either (r == old) new r) then
+  exchanges i then slots n me old new hit miss s k homes at small =
+      exchanged (slice_index s.words i) old new (Goes s i n me then)
+      (λ e. hit s k homes at e)
+      (λ ne. (me.0, keeps, tt, stays s k i n me.0 at me.1, miss (slice_index s.words i) ne))
+
+  pub at0 : (s : St T) (k : Keeps s) → slice_index s.words 0 ≡ drawn k.history + 9223372036854775808 * k.cut
+  at0 s k = ap (λ l. slice_index l 0) k.words
+
+  pub at1 : (s : St T) (k : Keeps s) → slice_index s.words 1 ≡ taken k.history
+  at1 s k = ap (λ l. slice_index l 1) k.words
+
+  pub at2 : (s : St T) (k : Keeps s) → slice_index s.words 2 ≡ k.tokens + 4294967296 * k.waiting
+  at2 s k = ap (λ l. slice_index l 2) k.words

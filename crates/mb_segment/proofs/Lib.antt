@@ -1,0 +1,15 @@
+-- In the order of reading: a file uses only files above it.
+pub mod Base
+pub mod Totals
+pub mod Spots
+pub mod Halves
+pub mod Kept
+pub mod DrawMoves
+pub mod MarkMoves
+pub mod ClaimMoves
+pub mod ReadMoves
+pub mod LookMoves
+pub mod ListMoves
+pub mod PassMoves
+pub mod Endings
+pub mod Places

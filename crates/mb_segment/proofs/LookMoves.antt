@@ -1,0 +1,133 @@
+-- The looks of a receiver keep the rule: at the number claimed, then at the number drawn.
+use Rattle.mb_segment.proofs.Base.{Allows, [], ap, arith, dec_le, dec_lt, get_elem?, inl, inr, keeps, length}
+use Rattle.mb_segment.proofs.Base.{none, refl, slice_index, some, step, suc, zero, ℕ, ⊎_elim, ◌%◌, ◌*◌}
+use Rattle.mb_segment.proofs.Base.{◌+◌, ◌-◌, ◌<◌, ◌≡◌, ◌≤◌}
+use Rattle.mb_segment.specs.Vocabulary.{Duty, Keeps, Sat, View, always, done, drawn, falls_asleep}
+use Rattle.mb_segment.specs.Vocabulary.{free, looked, looking, sees_taken, told, with_duty}
+use Rattle.mb_segment.proofs.Spots.{nothing_left}
+use Rattle.mb_segment.proofs.Halves.{free_open}
+use Rattle.mb_segment.proofs.Kept.{Goes, Plain, St, at0, at1, at_rest, loaded, refit, settled, sighted, stays}
+
+-- a view that differs in what it owes alone
+pub plain : {T : Type 0} (f : Duty → Duty) (v : View T) → Plain v (with_duty f v)
+plain f v = (refl, refl, refl, refl, refl, refl)
+
+-- the pass owes other things, and is in the list as often as before
+abbrev pub StaysListed : (Duty → Duty) → Duty → Type 0
+StaysListed f d = ((f d).fresh + (f d).asleep + (f d).leaving ≡ d.fresh + d.asleep + d.leaving)
+    × ((f d).closing ≡ d.closing)
+
+-- a number drawn at or above the number of positions, with the top bit or without, says that none is free
+pub none_free : (k_cut undrawn r n : ℕ) → n ≤ r → r ≡ (n - undrawn) + 9223372036854775808 * k_cut → undrawn ≤ n
+    → free k_cut undrawn ≡ 0
+none_free zero undrawn r n le is in_ = omega arith
+none_free (suc c) undrawn r n le is in_ = refl
+
+-- and the other way round
+pub all_drawn : (k_cut undrawn n r size : ℕ) → free k_cut undrawn ≡ 0 → r
+    ≡ (n - undrawn) + 9223372036854775808 * k_cut → n ≡ size
+    → n < 9223372036854775808 → size ≤ r
+all_drawn zero undrawn n r size none_ is same_ small = omega arith
+all_drawn (suc c) undrawn n r size none_ is same_ small = omega arith
+
+module _ {T : Type 0} where
+  pub sees_taken_at : (slots n : ℕ) (me : Sat T)
+      → Allows Keeps slots n me 1 (λ r. r) (always sees_taken (step slots 1 0 0 none) me)
+  sees_taken_at slots n me s k homes at small =
+      let now_ = at1 s k in
+      let r = slice_index s.words 1 in
+      let fit = k.fits n me.0 at in (
+        sees_taken r me.0,
+        keeps,
+        tt,
+        loaded s 1 n me.1 (sees_taken r me.0) (settled s k n me.0 (sees_taken r me.0) at refl refl refl refl
+            (sighted k.history k.states k.cut k.hub k.roll n me.0 record me.0.sight { low = r } fit
+            (omega arith) fit.ripe fit.full fit.cut_)
+            (at_rest s k me.0 (sees_taken r me.0) refl)),
+        (refl, refl),
+      )
+
+  -- nothing waits where no more are drawn than were claimed before
+  nothing_waits : (s : St T) (k : Keeps s) (n : ℕ) (v : View T) → get_elem? s.views n ≡ some v
+      → slice_index s.words 0 % 9223372036854775808 ≤ v.sight.low → k.history.rest ≡ []
+  nothing_waits s k n v at le =
+      let now_ = at0 s k in let many = k.sized in let small = k.small in let in_ = k.within in
+      let low = (k.fits n v at).low in
+      nothing_left k.history.rest (omega arith)
+
+  looks_at : (f g : Duty → Duty) (slots n : ℕ) (me : Sat T) → StaysListed f me.0.duty → StaysListed g me.0.duty
+      → (g me.0.duty).asleep ≡ me.0.duty.asleep
+      → (s : St T) (k : Keeps s) → length s.homes ≡ slots → get_elem? s.views n ≡ some me.0
+      → Dec (slice_index s.words 0 % 9223372036854775808 ≤ me.0.sight.low) → Dec (slice_index s.words 0 < slots)
+      → Goes s 0 n me (looking f g (step slots 0 0 0 none) me) (slice_index s.words 0)
+  looks_at f g slots n me lf lg sleeps s k homes at (no some_) open_ = (
+    me.0,
+    keeps,
+    tt,
+    stays s k 0 n me.0 at me.1,
+    (
+      (λ _. (refl, refl)),
+      (λ le _. absurd (some_ le)),
+      λ le _. absurd (some_ le),
+    ),
+  )
+  looks_at f g slots n me lf lg sleeps s k homes at (yes none_) (yes open_) =
+      let w = with_duty f me.0 in
+      let now_ = at0 s k in let many = k.sized in let small = k.small in let in_ = k.within in
+      let empty = nothing_waits s k n me.0 at none_ in
+      let zero_ : length k.history.rest ≡ 0 = ap length empty in
+      let not_cut : k.cut ≡ 0 = omega arith in
+      let free_is = free_open k.cut (length k.states - drawn k.history) not_cut in
+      let l = lf.0 in (
+        w,
+        keeps,
+        tt,
+        loaded s 0 n me.1 w (settled s k n me.0 w at (omega arith) refl refl refl
+            (refit k.history k.states k.cut k.hub k.roll n me.0 w (plain f me.0) (k.fits n me.0 at))
+            (λ L O C L' O' C' l o c le q h. (inr (omega arith), inr (omega arith)))),
+        ((λ lt. absurd (omega arith)), (λ _ _. (refl, refl)), λ _ le. absurd (omega arith)),
+      )
+  looks_at f g slots n me lf lg sleeps s k homes at (yes none_) (no over_) =
+      let w = told (with_duty g me.0) in
+      let now_ = at0 s k in let many = k.sized in let small = k.small in let in_ = k.within in
+      let empty = nothing_waits s k n me.0 at none_ in
+      let zero_ : length k.history.rest ≡ 0 = ap length empty in
+      let shut_ = none_free k.cut (length k.states - drawn k.history) (slice_index s.words 0) (length k.states)
+      (omega arith) (omega arith) (omega arith) in
+      let fit = refit k.history k.states k.cut k.hub k.roll n me.0 (with_duty g me.0) (plain g me.0)
+      (k.fits n me.0 at) in
+      let l = lg.0 in (
+        w,
+        keeps,
+        tt,
+        loaded s 0 n me.1 w (settled s k n me.0 w at (omega arith) refl refl refl
+            record {
+              member = λ r. let m = fit.member r in record
+                  { sent = m.sent; got = m.got; no_hub = m.no_hub; not_back = m.not_back };
+              hub_ = λ r. let m = fit.hub_ r in record { here = m.here; ends = m.ends; nothing = m.nothing };
+              back = fit.back;
+              half = fit.half;
+              low = fit.low;
+              ripe = fit.ripe;
+              full = fit.full;
+              cut_ = fit.cut_;
+              over = λ _. (shut_, empty);
+            }
+            (λ L O C L' O' C' l o c le q h. let e = lg.1 in
+            (inr (omega arith), ⊎_elim (λ x. inl (omega arith)) (λ x. inr (omega arith)) h))),
+        ((λ lt. absurd (omega arith)), (λ _ lt. absurd (over_ lt)), λ _ _. (refl, refl)),
+      )
+
+  looks_as : (f g : Duty → Duty) (slots n : ℕ) (me : Sat T) → StaysListed f me.0.duty → StaysListed g me.0.duty
+      → (g me.0.duty).asleep ≡ me.0.duty.asleep
+      → Allows Keeps slots n me 0 (λ r. r) (looking f g (step slots 0 0 0 none) me)
+  looks_as f g slots n me lf lg sleeps s k homes at small = looks_at f g slots n me lf lg sleeps s k homes at
+      (dec_le (slice_index s.words 0 % 9223372036854775808) me.0.sight.low) (dec_lt (slice_index s.words 0) slots)
+
+  pub looks : (slots n : ℕ) (me : Sat T) → Allows Keeps slots n me 0 (λ r. r)
+      (looking looked looked (step slots 0 0 0 none) me)
+  looks slots n me = looks_as looked looked slots n me (refl, refl) (refl, refl) refl
+
+  pub looks_listed : (slots n : ℕ) (me : Sat T) → 0 < me.0.duty.fresh
+      → Allows Keeps slots n me 0 (λ r. r) (looking falls_asleep done (step slots 0 0 0 none) me)
+  looks_listed slots n me fresh = looks_as falls_asleep done slots n me (omega arith, refl) (omega arith, refl) refl

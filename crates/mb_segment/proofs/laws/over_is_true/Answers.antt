@@ -1,0 +1,31 @@
+use Rattle.mb_segment.proofs.Base.{ap, arith, length, slice_index, ◌-◌, ◌≡◌}
+use Rattle.mb_segment.specs.Vocabulary.{drawn}
+use Rattle.mb_segment.proofs.Spots.{nothing_left}
+use Rattle.mb_segment.proofs.Kept.{at0, at1}
+use Rattle.mb_segment.proofs.LookMoves.{all_drawn}
+use Rattle.mb_segment.proofs.Places.{drawn_is}
+use Rattle.mb_segment.proofs.laws.over_is_true.Goals as goal
+
+pub returns-clause-empty : goal.returns-clause-empty
+returns-clause-empty g c s k n v at le =
+    let d = drawn_is s k in let t = at1 s k in let low = (k.fits n v at).low in
+    (omega arith, nothing_left k.history.rest (omega arith))
+
+pub returns-clause-over : goal.returns-clause-over
+returns-clause-over g c s k n v at on =
+    let f = (k.fits n v at).over on in
+    let e = at0 s k in let d = drawn_is s k in let t = at1 s k in let i = k.within in let m = k.sized in let l
+    = k.small in
+    let z : length k.history.rest ≡ 0 = ap length f.1 in (
+      all_drawn k.cut (length k.states - drawn k.history) (length k.states) (slice_index s.words 0) (length s.homes)
+          f.0 (omega arith) (omega arith) (omega arith),
+      omega arith,
+      f.1,
+    )
+
+pub returns-clause-full : goal.returns-clause-full
+returns-clause-full g c s k n v at on =
+    let f = (k.fits n v at).full on in let d = drawn_is s k in let m = k.sized in omega arith
+
+pub returns-clause-cut : goal.returns-clause-cut
+returns-clause-cut g c s k n v at on = let f = (k.fits n v at).cut_ on in let e = at0 s k in omega arith

@@ -1,0 +1,23 @@
+use Rattle.std.proofs.Common.{List, arith, subst, sym, ◌∙◌, suc, ℕ, ap, ◌+◌, ◌≡◌}
+use Rattle.std.specs.Prelude.{None, Option, slice_set}
+use Rattle.std.specs.Mem.Slots.{slots_items}
+use Rattle.mb_segment.specs.Vocabulary.{Stand}
+use Rattle.mb_segment.proofs.Endings.{first_left, stand_after}
+use Rattle.mb_segment.proofs.left.Left.next.Goals as goal
+
+pub returns-clause-some : goal.returns-clause-some
+returns-clause-some g c x xs left =
+    let items = slots_items c.args.self.now.closed.slots in
+    let at = c.args.self.now.at in
+    let set_ : slots_items c.put.new.self ≡ slice_set items at None
+    = c.put.ensures.items ∙ ap (λ l. slice_set l at None) c.take-value.ensures.items in
+    let next_ : suc at ≡ at + 1 = omega arith in
+    let count = left.1 in (
+      first_left items at x xs c.take-value.result left.0 c.take-value.ensures.value,
+      (
+        subst (λ (l : List (Option g.row.T.Denot)). Stand l (at + 1) xs) (sym set_)
+            (subst (λ (q : ℕ). Stand (slice_set items at None) q xs) next_
+            (stand_after items at (suc at) None xs (omega arith) left.0.1)),
+        omega arith,
+      ),
+    )

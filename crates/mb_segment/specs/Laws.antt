@@ -1,0 +1,40 @@
+-- What the laws of all histories speak of.
+use Rattle.std.specs.Prelude.{List, Option, [], length, slice_index, suc, ℕ, ◌%◌, ◌∷◌, ◌≡◌, ◌≤◌, ◌⊎◌}
+use mathlib.Core.Option.{some}
+use lib.ListN.{get_elem?}
+use Rattle.atomic_table.specs.Table.{State}
+use Rattle.mb_segment.specs.Types.{Member, Spot, View}
+
+abbrev pub SegmentState : Type 0 → Type 0
+SegmentState T = State (Option T) (View T)
+
+-- the words: how many positions are drawn, and how many are claimed
+abbrev pub drawn_in : {T : Type 0} → SegmentState T → ℕ
+drawn_in s = slice_index s.words 0 % 9223372036854775808
+
+abbrev pub claimed_in : {T : Type 0} → SegmentState T → ℕ
+claimed_in s = slice_index s.words 1
+
+-- the first word says that no more positions will be drawn: all are, or the top bit is set
+abbrev pub IsOver : {T : Type 0} → SegmentState T → Type 0
+IsOver s = length s.homes ≤ slice_index s.words 0
+
+abbrev pub IsCut : {T : Type 0} → SegmentState T → Type 0
+IsCut s = 9223372036854775808 ≤ slice_index s.words 0
+
+abbrev pub IsViewOf : {T : Type 0} → SegmentState T → ℕ → View T → Type 0
+IsViewOf s n v = get_elem? s.views n ≡ some v
+
+-- it is the view of a pass that is out
+abbrev pub IsPassOf : {T : Type 0} → SegmentState T → ℕ → View T → Type 0
+IsPassOf s n v = (get_elem? s.views n ≡ some v) × (v.role ≡ Member)
+
+-- the list has this value at this position
+abbrev pub Has : {T : Type 0} → ℕ → T → List (Spot T) → Type 0
+Has p x [] = ⊥
+Has p x (s ∷ ss) = ((s.at ≡ p) × (s.value ≡ x)) ⊎ Has p x ss
+
+-- each position is above the one before, and none below b
+abbrev pub Rises : {T : Type 0} → ℕ → List (Spot T) → Type 0
+Rises b [] = Unit {0}
+Rises b (s ∷ ss) = (b ≤ s.at) × Rises (suc s.at) ss

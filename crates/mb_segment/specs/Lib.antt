@@ -1,0 +1,18 @@
+-- In the order of reading: a file stands on files above it.
+pub mod Types
+pub mod History
+pub mod Sleeping
+pub mod Slots
+pub mod Passes
+pub mod Rule
+pub mod Moves
+pub mod Steps
+pub mod Whole
+pub mod Laws
+pub mod Seats
+pub mod Answers
+pub mod Waiting
+pub mod Ending
+pub mod Vocabulary
+-- the names that clauses use, also for the crates above
+pub use Vocabulary.*

@@ -1,0 +1,123 @@
+-- How a step changes a view.
+use Rattle.std.specs.Prelude.{Bool, Some, [], false, true, ℕ, ◌+◌, ◌++◌, ◌-◌, ◌∷◌, ◌≡◌}
+use Rattle.mb_segment.specs.Types.{Duty, Nothing, Reads, View, Writes}
+use Rattle.mb_segment.specs.History.{spot}
+use Rattle.mb_segment.specs.Passes.{blank, blind}
+
+abbrev pub with_duty : {T : Type 0} → (Duty → Duty) → View T → View T
+with_duty f v = record v { duty = f v.duty }
+
+-- ---- positions
+-- it drew position p for the value x, which counts as sent
+abbrev pub drew : {T : Type 0} → ℕ → T → View T → View T
+drew p x v = record v { account = record v.account { sent = v.account.sent ++ spot p x ∷ [] }; half = Writes (spot p x) }
+
+abbrev pub took : {T : Type 0} → ℕ → T → View T → View T
+took p x v = record v { account = record v.account { got = v.account.got ++ spot p x ∷ [] }; half = Reads (spot p x) }
+
+-- it has marked the position, or read it
+abbrev pub ended : {T : Type 0} → View T → View T
+ended v = record v { half = Nothing }
+
+-- ---- what is owed
+-- a wake for the position drawn
+abbrev pub owes_wake : Duty → Duty
+owes_wake d = record d { wakes = d.wakes + 1 }
+
+-- for the last position: tokens for all
+abbrev pub owes_all : Duty → Duty
+owes_all d = record d { closing = d.closing + 1 }
+
+abbrev pub has_woken : Duty → Duty
+has_woken d = record d { wakes = d.wakes - 1 }
+
+abbrev pub has_closed : Duty → Duty
+has_closed d = record d { closing = d.closing - 1 }
+
+abbrev pub same : Duty → Duty
+same d = d
+
+-- it has looked, and owes one look less if it owed one
+abbrev pub looked : Duty → Duty
+looked d = record d { looks = d.looks - 1 }
+
+-- in place of a look it owes a wake
+abbrev pub hands_on : Duty → Duty
+hands_on d = record d { looks = d.looks - 1; wakes = d.wakes + 1 }
+
+-- ---- the list
+abbrev pub enters : Duty → Duty
+enters d = record d { fresh = d.fresh + 1 }
+
+-- it has looked, and is about to leave
+abbrev pub done : Duty → Duty
+done d = record d { fresh = d.fresh - 1; leaving = d.leaving + 1 }
+
+abbrev pub falls_asleep : Duty → Duty
+falls_asleep d = record d { fresh = d.fresh - 1; asleep = d.asleep + 1 }
+
+-- it takes a token, for which it owes a look
+abbrev pub wakes_up : Duty → Duty
+wakes_up d = record d { looks = d.looks + 1; asleep = d.asleep - 1 }
+
+-- a sleeper stops waiting
+abbrev pub gives_up : Duty → Duty
+gives_up d = record d { asleep = d.asleep - 1; leaving = d.leaving + 1 }
+
+-- one that owes a look goes without it: it owes a wake in its place
+abbrev pub goes_unseen : Duty → Duty
+goes_unseen d = record d { fresh = d.fresh - 1; leaving = d.leaving + 1; wakes = d.wakes + 1 }
+
+abbrev pub leaves : Duty → Duty
+leaves d = record d { leaving = d.leaving - 1 }
+
+-- it takes a token with it, and owes a wake in its place
+abbrev pub leaves_with_token : Duty → Duty
+leaves_with_token d = record d { wakes = d.wakes + 1; leaving = d.leaving - 1 }
+
+-- ---- what was seen
+abbrev pub sees_taken : {T : Type 0} → ℕ → View T → View T
+sees_taken r v = record v { sight = record v.sight { low = r } }
+
+abbrev pub sees_mark : {T : Type 0} → ℕ → View T → View T
+sees_mark k v = record v { sight = record v.sight { ripe = Some k } }
+
+abbrev pub sees_full : {T : Type 0} → View T → View T
+sees_full v = record v { sight = record v.sight { full = true } }
+
+abbrev pub sees_cut : {T : Type 0} → View T → View T
+sees_cut v = record v { sight = record v.sight { cut = true } }
+
+-- it is told that no value can come any more
+abbrev pub told : {T : Type 0} → View T → View T
+told v = record v { over = true }
+
+-- ---- the hub
+abbrev pub issued : {T : Type 0} → View T → View T
+issued v = record v { out = v.out + 1 }
+
+abbrev pub or : Bool → Bool → Bool
+or true b = true
+or false b = b
+
+-- the hub takes a pass back: it has its account, and knows whether it was told that no value can come any more
+abbrev pub took_back : {T : Type 0} → View T → View T → View T
+took_back v w = record v { out = v.out - 1; ends = w.account ∷ v.ends; over = or v.over w.over }
+
+-- ---- a view without what it saw, and a view that owes nothing
+abbrev pub bare : {T : Type 0} → View T → View T
+bare v = record v { sight = blind }
+
+abbrev pub calm : {T : Type 0} → View T → View T
+calm v = record blank { account = v.account; over = v.over }
+
+-- the view is a pass's, which owes nothing, has nothing begun and is not in the list
+abbrev pub IsCalm : {T : Type 0} → View T → Type 0
+IsCalm v = bare v ≡ calm v
+
+-- it sent x at position p, or received it there
+abbrev pub sent_at : {T : Type 0} → ℕ → T → View T → View T
+sent_at p x v = ended (drew p x v)
+
+abbrev pub got_at : {T : Type 0} → ℕ → T → View T → View T
+got_at p x v = ended (took p x v)

@@ -1,0 +1,50 @@
+-- What each position's state word and slot hold. A state is 0, 1 once the position is marked, 2 once it is read.
+use Rattle.std.specs.Prelude.{List, None, Option, Some, length, ℕ, ◌<◌, ◌≡◌, ◌≤◌, ◌⊎◌}
+use mathlib.Core.Option.{some}
+use mathlib.Core.Option as maybe
+use lib.ListN.{get_elem?}
+use Rattle.mb_segment.specs.Types.{Half, Nothing, Reads, View, Writes}
+use Rattle.mb_segment.specs.History.{Claim, Entry, History, all_entries, drawn, spot, taken}
+
+-- the slots: none is out with a pass, some is at home and has a value or not
+abbrev pub Homes : Type 0 → Type 0
+Homes T = List (maybe.Option (Option T))
+
+-- pass n has begun this, and not ended it
+abbrev pub HasHalf : {T : Type 0} → List (View T) → ℕ → Half T → Type 0
+HasHalf {T} views n half = (v : View T) × (get_elem? views n ≡ some v) × (v.half ≡ half)
+
+-- a position that nobody drew: its state is 0, and its slot at home and empty
+abbrev pub Undrawn : {T : Type 0} → History T → List ℕ → Homes T → Type 0
+Undrawn h states homes = (k : ℕ) → drawn h ≤ k → k < length states
+    → (get_elem? states k ≡ some 0) × (get_elem? homes k ≡ some (some None))
+
+-- a position drawn and not claimed: its drawer is still to mark it; or it is marked, and the slot has the entry's value
+abbrev pub Waits : {T : Type 0} → List (View T) → List ℕ → Homes T → ℕ → Entry T → Type 0
+Waits views states homes k e =
+    ((get_elem? states k ≡ some 0) × HasHalf views e.by (Writes (spot k e.value)))
+    ⊎ ((get_elem? states k ≡ some 1) × (get_elem? homes k ≡ some (some (Some e.value))))
+
+abbrev pub Waiting : {T : Type 0} → History T → List (View T) → List ℕ → Homes T → Type 0
+Waiting {T} h views states homes = (k : ℕ) (e : Entry T) → taken h ≤ k → get_elem? (all_entries h) k ≡ some e
+    → Waits views states homes k e
+
+-- a position claimed: its claimer is still to read the entry's value; or it is read, and the slot is empty
+abbrev pub IsTaken : {T : Type 0} → List (View T) → List ℕ → Homes T → ℕ → Claim T → Type 0
+IsTaken views states homes k c =
+    ((get_elem? states k ≡ some 1) × HasHalf views c.to (Reads (spot k c.entry.value)))
+    ⊎ ((get_elem? states k ≡ some 2) × (get_elem? homes k ≡ some (some None)))
+
+abbrev pub Taken : {T : Type 0} → History T → List (View T) → List ℕ → Homes T → Type 0
+Taken {T} h views states homes = (k : ℕ) (c : Claim T) → get_elem? h.claims k ≡ some c
+    → IsTaken views states homes k c
+
+-- what a pass has begun is so: it drew the position, which is not marked; or it claimed it, and it is not read
+abbrev pub HalfFits : {T : Type 0} → History T → List ℕ → ℕ → Half T → Type 0
+HalfFits h states n Nothing = Unit {0}
+HalfFits h states n (Writes s) =
+    (taken h ≤ s.at) × (get_elem? (all_entries h) s.at ≡ some record { by = n; value = s.value })
+    × (get_elem? states s.at ≡ some 0)
+HalfFits h states n (Reads s) =
+    ((by : ℕ) × (get_elem? h.claims s.at ≡ some record { entry = record { by = by; value = s.value }; to = n }))
+    × (get_elem? states s.at ≡ some 1)

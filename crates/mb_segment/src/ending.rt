@@ -1,0 +1,51 @@
+//! The end of a segment, which tells its whole history.
+ghost use Rattle.std.specs.Prelude.{List, None, Option, Some, [], true, ◌∷◌, ◌≡◌};
+ghost use Rattle.mb_segment.specs.{HasLeft, IsWhole, Issuer, hub_view};
+
+use crate::left::Left;
+use crate::segment::{Hub, Segment};
+use std::alloc::Allocator;
+
+/// The bit of the number drawn that says that the segment was cut.
+const CUT: u64 = 9223372036854775808;
+
+impl<T: Drop, A: Allocator + Drop> Segment<T, A> {
+    /// Ends the segment, once the hub has taken back all passes. Their accounts and the values left are those of one
+    /// history.
+    pub fn end(self, hub: Hub<T>) -> Left<T, A>
+        requires segment { hub.seat.table_id ≡ self.table.shared.table_id }
+        requires hub { (hub_view hub).role ≡ Issuer }
+        requires back { (hub_view hub).out ≡ 0 }
+        ensures whole { (left : List T) × IsWhole (hub_view hub).ends left × HasLeft result left
+            × ((hub_view hub).over ≡ true → left ≡ []) }
+    {
+        let Hub { seat } = hub;
+        let Segment { table, size: _ } = self;
+        let closed = table.close_with(seat);
+        let drawn = closed.word(0) % CUT;
+        let taken = closed.word(1);
+        Left {
+            closed,
+            at: taken as usize,
+            until: drawn as usize,
+        }
+    }
+}
+
+impl<T: Drop, A: Allocator + Drop> Left<T, A> {
+    /// The next of the values left.
+    pub fn next(&mut self) -> Option<T>
+        ensures some { (x : T) (xs : List T) → HasLeft self.old (x ∷ xs)
+            → (result ≡ Some x) × HasLeft self.new xs }
+        ensures none { HasLeft self.old [] → (result ≡ None) × HasLeft self.new [] }
+    {
+        if self.at >= self.until {
+            return None;
+        }
+        let at = self.at;
+        let value = self.closed.slots.take(at);
+        self.closed.slots.put(at, None);
+        self.at = at + 1;
+        value
+    }
+}

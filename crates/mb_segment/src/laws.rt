@@ -1,0 +1,60 @@
+//! The laws of a segment, over all histories. The functions compute nothing: their contracts are the laws.
+ghost use Rattle.std.specs.Prelude.{List, [], length, true, ℕ, ◌+◌, ◌<◌, ◌≡◌, ◌≤◌, ◌⊎◌};
+ghost use mathlib.Core.Option.{some};
+ghost use lib.ListN.{get_elem?};
+ghost use Rattle.mb_segment.specs.{Claim, Has, IsCut, IsOver, IsPassOf, IsViewOf, Keeps, Rises, SegmentState, View, claimed_in};
+ghost use Rattle.mb_segment.specs.{closing, drawn_in, got_by, owed, sent_by, sleeping, total};
+
+/// All positions drawn stand in one order, and the first of them are those claimed. What a pass sent and what it
+/// received stand there in its own order. What is drawn or claimed next stands after all that was before.
+pub fn one_order<T>()
+    ensures sent { (s : SegmentState T) (k : Keeps s) (n : ℕ) (v : View T) → IsPassOf s n v
+        → (v.account.sent ≡ sent_by n k.history) × Rises 0 v.account.sent }
+    ensures got { (s : SegmentState T) (k : Keeps s) (n : ℕ) (v : View T) → IsPassOf s n v
+        → (v.account.got ≡ got_by n k.history) × Rises 0 v.account.got }
+    ensures later_drawn { (s : SegmentState T) (k : Keeps s) (n : ℕ) (v : View T) (p : ℕ) (x : T)
+        → IsPassOf s n v → Has p x v.account.sent → p < drawn_in s }
+    ensures later_claimed { (s : SegmentState T) (k : Keeps s) (n : ℕ) (v : View T) (p : ℕ) (x : T)
+        → IsPassOf s n v → Has p x v.account.got → p < claimed_in s }
+{}
+
+/// A position has one drawer and one taker, and its taker got what its drawer gave. Each position below the number
+/// claimed has a taker, so nobody overtakes.
+pub fn one_taker<T>()
+    ensures taker { (s : SegmentState T) (k : Keeps s) (i j : ℕ) (u v : View T) (p : ℕ) (x y : T)
+        → IsPassOf s i u → IsPassOf s j v
+        → Has p x u.account.got → Has p y v.account.got → (i ≡ j) × (x ≡ y) }
+    ensures drawer { (s : SegmentState T) (k : Keeps s) (i j : ℕ) (u v : View T) (p : ℕ) (x y : T)
+        → IsPassOf s i u → IsPassOf s j v
+        → Has p x u.account.sent → Has p y v.account.sent → (i ≡ j) × (x ≡ y) }
+    ensures same { (s : SegmentState T) (k : Keeps s) (i j : ℕ) (u v : View T) (p : ℕ) (x y : T)
+        → IsPassOf s i u → IsPassOf s j v
+        → Has p x u.account.sent → Has p y v.account.got → x ≡ y }
+    ensures beginning { (s : SegmentState T) (k : Keeps s) (p : ℕ) → p < claimed_in s
+        → (c : Claim T) × (get_elem? k.history.claims p ≡ some c) }
+{}
+
+/// Where a receiver loaded the number claimed, and then finds no more drawn, each position drawn is claimed at that
+/// load. Where a pass was told that no value can come any more, none waits and no more will be drawn; where it was told
+/// that the segment is full or cut, it is.
+pub fn over_is_true<T>()
+    ensures empty { (s : SegmentState T) (k : Keeps s) (n : ℕ) (v : View T) → IsViewOf s n v
+        → drawn_in s ≤ v.sight.low → (drawn_in s ≡ claimed_in s) × (k.history.rest ≡ []) }
+    ensures over { (s : SegmentState T) (k : Keeps s) (n : ℕ) (v : View T) → IsViewOf s n v
+        → v.over ≡ true → IsOver s × (drawn_in s ≡ claimed_in s) × (k.history.rest ≡ []) }
+    ensures full { (s : SegmentState T) (k : Keeps s) (n : ℕ) (v : View T) → IsViewOf s n v
+        → v.sight.full ≡ true → drawn_in s ≡ length s.homes }
+    ensures cut { (s : SegmentState T) (k : Keeps s) (n : ℕ) (v : View T) → IsViewOf s n v
+        → v.sight.cut ≡ true → IsCut s }
+{}
+
+/// Between any two steps: if a receiver sleeps without a token, no more values wait than there are tokens given, and
+/// looks and wakes owed. And if no more will be drawn, a closer still owes tokens.
+pub fn no_wake_up_is_lost<T>()
+    ensures owed { (s : SegmentState T) (k : Keeps s) → 0 < total sleeping s.views
+        → claimed_in s < drawn_in s → 0 < k.tokens + total owed s.views }
+    ensures enough { (s : SegmentState T) (k : Keeps s) → k.tokens < total sleeping s.views
+        → drawn_in s ≤ claimed_in s + (k.tokens + total owed s.views) }
+    ensures over { (s : SegmentState T) (k : Keeps s) → k.tokens < total sleeping s.views
+        → IsOver s → 0 < total closing s.views }
+{}

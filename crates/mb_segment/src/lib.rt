@@ -1,0 +1,54 @@
+//! A segment: positions that are drawn, marked, claimed and read, one after the other.
+//!
+//! # Who does what
+//!
+//! - [`Segment`] has so many positions, each with a slot for a value. [`Segment::new`] reserves all memory.
+//! - [`Hub`] issues passes, and takes them back with what they sent and received ([`Segment::issue`],
+//!   [`Segment::take_back`]). [`Segment::end`] tells the whole history, and [`Left`] gives out what nobody received.
+//! - [`Pass`] is what one thread sends and receives with. It is linear: who owes a wake, or has drawn a position and not
+//!   marked it, cannot let go of it. [`Idle`] is a pass at rest, which moves to threads and may be dropped.
+//!
+//! # The calls that never wait
+//!
+//! - A sender draws a position for its value ([`Segment::draw`]), marks it ([`Segment::mark`]), and pays the wake that
+//!   it then owes ([`Segment::wake`], for the last position [`Segment::wake_all`]). Who cuts ([`Segment::cut`]) owes as
+//!   much as who drew the last.
+//! - A receiver looks ([`Segment::look`]), claims what it found ([`Segment::claim`]), and reads it ([`Segment::read`]).
+//! - If nothing is there, it enters the list ([`Segment::enter`]), and looks again ([`Segment::look_listed`],
+//!   [`Segment::claim_listed`]). If still nothing is there, it sleeps, until [`Segment::accept`] finds a token. Then it
+//!   owes a look. It may stop waiting ([`Segment::give_up`], [`Segment::go_unseen`], [`Segment::hand_on`]), and leaves
+//!   the list ([`Segment::leave`]).
+//!
+//! # The calls that wait
+//!
+//! [`Segment::send`], [`Segment::receive`], [`Segment::receive_by`] and [`Segment::close`] are made of those.
+//!
+//! # What is kept
+//!
+//! Between any two steps of any threads the words, the slots and what each pass knows agree with one history
+//! (`specs/Rule.antt`). [`laws`] says what follows for all histories.
+#![tactic(auto)]
+
+mod answers;
+mod effects;
+mod ending;
+mod idle;
+pub mod laws;
+mod left;
+mod list;
+mod receiving;
+mod rule;
+mod segment;
+mod sending;
+#[cfg(test)]
+mod tests;
+mod view;
+mod waiting;
+mod words;
+
+pub use answers::{Cut, Draw, Leave, Look, Rest, Wake};
+pub use idle::Idle;
+pub use left::Left;
+pub use segment::{Hub, Pass, Segment};
+pub use view::{Account, Duty, Half, Role, Sight, Spot, View};
+pub use waiting::{NotSent, Received};

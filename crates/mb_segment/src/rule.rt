@@ -1,0 +1,176 @@
+//! The rule of a segment, and what its steps tell.
+use crate::view::View;
+use atomic_table::{Join, Play, Split, TableRule};
+use std::marker::{Brand, PhantomData};
+
+/// Words, slots and views agree with one history (`specs/Rule.antt`).
+pub struct SegmentRule;
+
+impl<T> TableRule<Option<T>, View<T>, ()> for SegmentRule {
+    ghost use Rattle.mb_segment.specs.Passes.{new_hub};
+    ghost use Rattle.mb_segment.specs.Rule.{Keeps};
+
+    ghost holds = { λ _. Keeps };
+
+    ghost first = { λ _. new_hub };
+}
+
+/// A value that a proof picks where a position is drawn.
+pub trait Value<T> {
+    ghost use Rattle.std.specs.Prelude.{Option};
+
+    ghost value: { Option T };
+}
+
+// A call names `Brand`, and the caller's `Invariants.antt` picks the member. Those here are not used.
+impl<T> Value<T> for Brand {
+    ghost use Rattle.std.specs.Prelude.{None};
+
+    ghost value = { None };
+}
+
+/// A position that a proof picks where its state is loaded.
+pub trait Position {
+    ghost use Rattle.std.specs.Prelude.{ℕ};
+
+    ghost position: { ℕ };
+}
+
+impl Position for Brand {
+    ghost position = { 0 };
+}
+
+/// What a step does to the duty of its pass.
+pub trait Effect {
+    ghost use Rattle.mb_segment.specs.declared.view.Duty.{Duty};
+
+    ghost of: { Duty → Duty };
+}
+
+/// The exchange that draws a position.
+pub struct Draws<F, X> {
+    of: PhantomData<(F, X)>,
+}
+
+impl<T, F: Effect, X: Value<T>> Play<Option<T>, View<T>> for Draws<F, X> {
+    ghost use Rattle.mb_segment.specs.Steps.{drawing_picked};
+
+    ghost then = { drawing_picked F.of X.value };
+}
+
+/// The exchange that claims a position.
+pub struct Claims<F> {
+    of: PhantomData<F>,
+}
+
+impl<T, F: Effect> Play<Option<T>, View<T>> for Claims<F> {
+    ghost use Rattle.mb_segment.specs.Steps.{claiming};
+
+    ghost then = { claiming F.of };
+}
+
+/// The store that marks a position, or says that it is read.
+pub struct Ends;
+
+impl<T> Play<Option<T>, View<T>> for Ends {
+    ghost use Rattle.mb_segment.specs.Steps.{ending};
+
+    ghost then = { ending };
+}
+
+/// Any other exchange.
+pub struct Exchanges<F> {
+    of: PhantomData<F>,
+}
+
+impl<T, F: Effect> Play<Option<T>, View<T>> for Exchanges<F> {
+    ghost use Rattle.mb_segment.specs.Moves.{with_duty};
+    ghost use Rattle.mb_segment.specs.Steps.{exchanging};
+
+    ghost then = { exchanging (with_duty F.of) };
+}
+
+/// A load that changes what is owed, whatever it finds.
+pub struct Always<F> {
+    of: PhantomData<F>,
+}
+
+impl<T, F: Effect> Play<Option<T>, View<T>> for Always<F> {
+    ghost use Rattle.mb_segment.specs.Moves.{with_duty};
+    ghost use Rattle.mb_segment.specs.Steps.{always};
+
+    ghost then = { always (λ _. with_duty F.of) };
+}
+
+/// The load of the number drawn, before a draw.
+pub struct Asks;
+
+impl<T> Play<Option<T>, View<T>> for Asks {
+    ghost use Rattle.mb_segment.specs.Steps.{asking};
+
+    ghost then = { asking };
+}
+
+/// The load of the number claimed.
+pub struct SeesTaken;
+
+impl<T> Play<Option<T>, View<T>> for SeesTaken {
+    ghost use Rattle.mb_segment.specs.Moves.{sees_taken};
+    ghost use Rattle.mb_segment.specs.Steps.{always};
+
+    ghost then = { always sees_taken };
+}
+
+/// The load of a position's state.
+pub struct SeesMark<P> {
+    of: PhantomData<P>,
+}
+
+impl<T, P: Position> Play<Option<T>, View<T>> for SeesMark<P> {
+    ghost use Rattle.mb_segment.specs.Steps.{seeing_mark};
+
+    ghost then = { seeing_mark P.position };
+}
+
+/// The load of the number drawn, after one of the number claimed.
+pub struct Looks<F, G> {
+    of: PhantomData<(F, G)>,
+}
+
+impl<T, F: Effect, G: Effect> Play<Option<T>, View<T>> for Looks<F, G> {
+    ghost use Rattle.mb_segment.specs.Steps.{looking};
+
+    ghost then = { looking F.of G.of };
+}
+
+/// The load of the list that may find that nobody waits without a token.
+pub struct NoneWaits<F> {
+    of: PhantomData<F>,
+}
+
+impl<T, F: Effect> Play<Option<T>, View<T>> for NoneWaits<F> {
+    ghost use Rattle.mb_segment.specs.Steps.{if_none_waits};
+
+    ghost then = { if_none_waits F.of };
+}
+
+/// The hub issues a pass, and takes it back.
+pub struct Passes;
+
+impl<T> Split<View<T>> for Passes {
+    ghost use Rattle.mb_segment.specs.Moves.{issued};
+    ghost use Rattle.mb_segment.specs.Passes.{blank};
+
+    ghost left = { issued };
+
+    ghost right = { λ _. blank };
+}
+
+impl<T> Join<View<T>> for Passes {
+    ghost use Rattle.mb_segment.specs.Moves.{took_back};
+    ghost use Rattle.mb_segment.specs.Passes.{spent};
+
+    ghost both = { took_back };
+
+    ghost spent = { spent };
+}

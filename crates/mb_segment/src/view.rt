@@ -1,0 +1,74 @@
+//! What a pass or the hub of a segment knows. No value of these types is made: they exist in proofs alone.
+use std::collections::LinkedList;
+
+/// A position of the segment, and the value sent there.
+pub struct Spot<T> {
+    pub at: u64,
+    pub value: T,
+}
+
+/// What a pass sent and what it received, each in the order of the positions.
+pub struct Account<T> {
+    pub sent: LinkedList<Spot<T>>,
+    pub got: LinkedList<Spot<T>>,
+}
+
+/// Who holds the view.
+pub enum Role {
+    /// The hub, which issues passes and takes them back.
+    Issuer,
+    /// A pass that was issued.
+    Member,
+    /// A pass that was taken back.
+    Spent,
+}
+
+/// What a pass has begun with a slot, and not ended.
+pub enum Half<T> {
+    Nothing,
+    /// It drew this position for this value, and has not marked it.
+    Writes(Spot<T>),
+    /// It claimed this position, which has this value, and has not read it.
+    Reads(Spot<T>),
+}
+
+/// What a pass owes, and how often it stands in the list of those that wait.
+pub struct Duty {
+    /// Wakes that it owes, one for each position drawn, or for each token that it could not use.
+    pub wakes: u64,
+    /// Looks that it owes, one for each token taken.
+    pub looks: u64,
+    /// In the list. It owes a look.
+    pub fresh: u64,
+    /// In the list. It looked, found nothing, and sleeps. It owes nothing.
+    pub asleep: u64,
+    /// In the list, and about to leave.
+    pub leaving: u64,
+    /// It drew the last position, or cut the segment. It owes a token to each that waits without one.
+    pub closing: u64,
+}
+
+/// What a pass saw of the words. It stays true.
+pub struct Sight {
+    /// As many positions as this are claimed.
+    pub low: u64,
+    /// This position was marked.
+    pub ripe: Option<u64>,
+    /// All positions are drawn.
+    pub full: bool,
+    /// The segment is cut.
+    pub cut: bool,
+}
+
+pub struct View<T> {
+    pub role: Role,
+    pub account: Account<T>,
+    pub half: Half<T>,
+    pub duty: Duty,
+    pub sight: Sight,
+    /// It was told that no value can come any more.
+    pub over: bool,
+    /// Of the hub: how many passes are out, and what those that came back had done, the latest first.
+    pub out: u64,
+    pub ends: LinkedList<Account<T>>,
+}

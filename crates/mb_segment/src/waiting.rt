@@ -1,0 +1,357 @@
+//! The calls that wait: one send, and one receive that sleeps until a value comes.
+ghost use Rattle.std.specs.Prelude.{IfErr, IfNone, IfOk, IfSome, [], false, true, ℕ, ◌+◌, ◌++◌, ◌<◌, ◌∷◌, ◌≡◌, ◌⊎◌};
+ghost use Rattle.mb_segment.specs.{Becomes, IsCalm, IsFree, IsStill, Member, Nothing, OfFound, OfReceived, bare, calm};
+ghost use Rattle.mb_segment.specs.{done, ended, enters, falls_asleep, gives_up, got_at, has_closed, has_woken, held_by};
+ghost use Rattle.mb_segment.specs.{leaves, looked, sent_at, told, took, value_of, view_in, wakes_up, with_duty};
+
+use crate::answers::{Cut, Draw, Leave, Look, Rest, Wake};
+use crate::segment::{Pass, Segment};
+use std::alloc::Allocator;
+use std::sync::Wait;
+use std::thread::yield_now;
+use std::time::{Clock, Duration, Instant};
+
+/// A value that could not be sent, since no more positions will be drawn.
+#[derive(Debug, Drop)]
+pub enum NotSent<T> {
+    /// All positions of the segment are drawn.
+    Full(T),
+    /// The segment was cut.
+    Closed(T),
+}
+
+/// What a receive came to.
+#[derive(Debug, Drop)]
+pub enum Received<T> {
+    Value(T),
+    /// Each position drawn is claimed, and no more will be drawn.
+    Over,
+    /// The deadline came first.
+    TimedOut,
+}
+
+/// What was found by looks that wait for no sleep.
+#[derive(Drop)]
+enum Found<T> {
+    Value(T),
+    Empty,
+    Over,
+}
+
+impl<T: Drop, A: Allocator + Drop> Segment<T, A> {
+    /// Pays one wake that is owed.
+    pub fn pay<R: Wait>(&self, rt: &R, pass: &mut Pass<T>)
+        requires segment { pass.old.seat.table_id ≡ self.now.table.shared.table_id }
+        requires owes { 0 < (view_in pass.old).duty.wakes }
+        ensures pass { IsStill pass.old pass.new }
+        ensures paid { Becomes pass.old pass.new (with_duty has_woken (view_in pass.old)) }
+    {
+        for _ in rt.forever() {
+            match self.wake(pass) {
+                Wake::Nobody => return,
+                Wake::One => {
+                    self.wake_thread();
+                    return;
+                }
+                Wake::Again => {}
+            }
+        }
+        unreachable!()
+    }
+
+    /// Gives a token to each that waits, for a pass that drew the last position or cut the segment.
+    pub fn pay_all<R: Wait>(&self, rt: &R, pass: &mut Pass<T>)
+        requires segment { pass.old.seat.table_id ≡ self.now.table.shared.table_id }
+        requires owes { 0 < (view_in pass.old).duty.closing }
+        ensures pass { IsStill pass.old pass.new }
+        ensures paid { Becomes pass.old pass.new (with_duty has_closed (view_in pass.old)) }
+    {
+        for _ in rt.forever() {
+            match self.wake_all(pass) {
+                Wake::Nobody => return,
+                Wake::One => self.wake_thread(),
+                Wake::Again => {}
+            }
+        }
+        unreachable!()
+    }
+
+    /// Sends a value, and wakes a receiver for it. The error gives the value back.
+    pub fn send<R: Wait>(&self, rt: &R, pass: &mut Pass<T>, value: T) -> Result<(), NotSent<T>>
+        requires segment { pass.old.seat.table_id ≡ self.now.table.shared.table_id }
+        requires free { IsFree pass.old }
+        ensures pass { IsStill pass.old pass.new }
+        ensures sent { IfOk result (λ _. (at : ℕ)
+            × (bare (view_in pass.new) ≡ sent_at at value (calm (view_in pass.old)))) }
+        ensures refused { IfErr result (λ e. (value_of e ≡ value)
+            × (bare (view_in pass.new) ≡ calm (view_in pass.old))
+            × (((view_in pass.new).sight.full ≡ true) ⊎ ((view_in pass.new).sight.cut ≡ true))) }
+        ensures free { IsFree pass.new }
+    {
+        for _ in rt.forever() {
+            match self.draw(pass, &value) {
+                Draw::At(at) => {
+                    self.mark(pass, at, value);
+                    if at + 1 < self.size {
+                        self.pay(rt, pass);
+                    } else {
+                        self.pay_all(rt, pass);
+                    }
+                    return Ok(());
+                }
+                Draw::Full => return Err(NotSent::Full(value)),
+                Draw::Closed => return Err(NotSent::Closed(value)),
+                Draw::Again => {}
+            }
+        }
+        unreachable!()
+    }
+
+    /// Cuts the segment, and wakes all that wait. No more positions will be drawn.
+    pub fn close<R: Wait>(&self, rt: &R, pass: &mut Pass<T>)
+        requires segment { pass.old.seat.table_id ≡ self.now.table.shared.table_id }
+        requires free { IsFree pass.old }
+        ensures pass { IsStill pass.old pass.new }
+        ensures same { Becomes pass.old pass.new (view_in pass.old) }
+    {
+        for _ in rt.forever() {
+            match self.cut(pass) {
+                Cut::Done => {
+                    self.pay_all(rt, pass);
+                    return;
+                }
+                Cut::Was => return,
+                Cut::Again => {}
+            }
+        }
+        unreachable!()
+    }
+
+    /// Takes the first value, or finds that none is there. Yields while the next position is drawn and not marked.
+    fn find<R: Wait>(&self, rt: &R, pass: &mut Pass<T>) -> Found<T>
+        requires segment { pass.old.seat.table_id ≡ self.now.table.shared.table_id }
+        requires member { (view_in pass.old).role ≡ Member }
+        requires idle { ((view_in pass.old).half ≡ Nothing) × (held_by pass.old ≡ []) }
+        ensures pass { IsStill pass.old pass.new }
+        ensures held { held_by pass.new ≡ [] }
+        ensures answer { OfFound result
+            (λ x. (at : ℕ)
+            × (bare (view_in pass.new) ≡ got_at at x (with_duty looked (bare (view_in pass.old)))))
+            (bare (view_in pass.new) ≡ with_duty looked (bare (view_in pass.old)))
+            (bare (view_in pass.new) ≡ told (with_duty looked (bare (view_in pass.old)))) }
+    {
+        for _ in rt.forever() {
+            match self.look(pass) {
+                Look::Ready(at) => {
+                    if self.claim(pass, at) {
+                        return Found::Value(self.read(pass, at));
+                    }
+                }
+                Look::Yield => yield_now(),
+                Look::Empty => return Found::Empty,
+                Look::Over => return Found::Over,
+            }
+        }
+        unreachable!()
+    }
+
+    /// The same for one in the list. It sleeps from then on if nothing is there yet, and else is about to leave.
+    fn find_listed<R: Wait>(&self, rt: &R, pass: &mut Pass<T>) -> Found<T>
+        requires segment { pass.old.seat.table_id ≡ self.now.table.shared.table_id }
+        requires member { (view_in pass.old).role ≡ Member }
+        requires fresh { 0 < (view_in pass.old).duty.fresh }
+        requires idle { ((view_in pass.old).half ≡ Nothing) × (held_by pass.old ≡ []) }
+        ensures pass { IsStill pass.old pass.new }
+        ensures held { held_by pass.new ≡ [] }
+        ensures answer { OfFound result
+            (λ x. (at : ℕ)
+            × (bare (view_in pass.new) ≡ got_at at x (with_duty done (bare (view_in pass.old)))))
+            (bare (view_in pass.new) ≡ with_duty falls_asleep (bare (view_in pass.old)))
+            (bare (view_in pass.new) ≡ told (with_duty done (bare (view_in pass.old)))) }
+    {
+        for _ in rt.forever() {
+            match self.look_listed(pass) {
+                Look::Ready(at) => {
+                    if self.claim_listed(pass, at) {
+                        return Found::Value(self.read(pass, at));
+                    }
+                }
+                Look::Yield => yield_now(),
+                Look::Empty => return Found::Empty,
+                Look::Over => return Found::Over,
+            }
+        }
+        unreachable!()
+    }
+
+    fn enter_list<R: Wait>(&self, rt: &R, pass: &mut Pass<T>)
+        requires segment { pass.old.seat.table_id ≡ self.now.table.shared.table_id }
+        ensures pass { IsStill pass.old pass.new }
+        ensures entered { Becomes pass.old pass.new (with_duty enters (view_in pass.old)) }
+    {
+        for _ in rt.forever() {
+            if self.enter(pass) {
+                return;
+            }
+        }
+        unreachable!()
+    }
+
+    /// Leaves the list. If the pass was given a token, it wakes another in its place.
+    fn leave_list<R: Wait>(&self, rt: &R, pass: &mut Pass<T>)
+        requires segment { pass.old.seat.table_id ≡ self.now.table.shared.table_id }
+        requires leaving { 0 < (view_in pass.old).duty.leaving }
+        ensures pass { IsStill pass.old pass.new }
+        ensures left { Becomes pass.old pass.new (with_duty leaves (view_in pass.old)) }
+    {
+        for _ in rt.forever() {
+            match self.leave(pass) {
+                Leave::Left => return,
+                Leave::Owes => {
+                    self.pay(rt, pass);
+                    return;
+                }
+                Leave::Again => {}
+            }
+        }
+        unreachable!()
+    }
+
+    /// Sleeps until it has a token. It owes a look then.
+    fn sleep<R: Wait>(&self, rt: &R, pass: &mut Pass<T>)
+        requires segment { pass.old.seat.table_id ≡ self.now.table.shared.table_id }
+        requires asleep { 0 < (view_in pass.old).duty.asleep }
+        ensures pass { IsStill pass.old pass.new }
+        ensures woken { Becomes pass.old pass.new (with_duty wakes_up (view_in pass.old)) }
+    {
+        for _ in rt.forever() {
+            match self.accept(pass) {
+                Rest::Woken => return,
+                Rest::Sleep => self.park(rt, pass),
+                Rest::Again => {}
+            }
+        }
+        unreachable!()
+    }
+
+    /// The same until a deadline. If that came first, the answer is false, and the pass is about to leave.
+    fn sleep_by<R: Wait + Clock>(&self, rt: &R, pass: &mut Pass<T>, deadline: Instant) -> bool
+        requires segment { pass.old.seat.table_id ≡ self.now.table.shared.table_id }
+        requires asleep { 0 < (view_in pass.old).duty.asleep }
+        ensures pass { IsStill pass.old pass.new }
+        ensures woken { result ≡ true
+            → Becomes pass.old pass.new (with_duty wakes_up (view_in pass.old)) }
+        ensures late { result ≡ false
+            → Becomes pass.old pass.new (with_duty gives_up (view_in pass.old)) }
+    {
+        for _ in rt.forever() {
+            match self.accept(pass) {
+                Rest::Woken => return true,
+                Rest::Sleep => {
+                    let most = left_until(rt, deadline);
+                    if most.is_zero() {
+                        self.give_up(pass);
+                        return false;
+                    }
+                    self.park_for(rt, pass, most);
+                }
+                Rest::Again => {}
+            }
+        }
+        unreachable!()
+    }
+
+    /// Receives the first value, and sleeps until there is one. `None` only if none can come any more.
+    pub fn receive<R: Wait>(&self, rt: &R, pass: &mut Pass<T>) -> Option<T>
+        requires segment { pass.old.seat.table_id ≡ self.now.table.shared.table_id }
+        requires free { IsFree pass.old }
+        ensures pass { IsStill pass.old pass.new }
+        ensures received { IfSome result (λ x. (at : ℕ)
+            × (bare (view_in pass.new) ≡ got_at at x (calm (view_in pass.old)))) }
+        ensures over { IfNone result
+            (bare (view_in pass.new) ≡ told (calm (view_in pass.old))) }
+        ensures free { IsFree pass.new }
+    {
+        for _ in rt.forever() {
+            match self.find(rt, pass) {
+                Found::Value(value) => return Some(value),
+                Found::Over => return None,
+                Found::Empty => {}
+            }
+            self.enter_list(rt, pass);
+            match self.find_listed(rt, pass) {
+                Found::Value(value) => {
+                    self.leave_list(rt, pass);
+                    return Some(value);
+                }
+                Found::Over => {
+                    self.leave_list(rt, pass);
+                    return None;
+                }
+                Found::Empty => {}
+            }
+            self.sleep(rt, pass);
+            match self.find(rt, pass) {
+                Found::Value(value) => return Some(value),
+                Found::Over => return None,
+                Found::Empty => {}
+            }
+        }
+        unreachable!()
+    }
+
+    /// The same until a deadline. While the next position is drawn and not marked, it goes on past the deadline.
+    pub fn receive_by<R: Wait + Clock>(
+        &self,
+        rt: &R,
+        pass: &mut Pass<T>,
+        deadline: Instant,
+    ) -> Received<T>
+        requires segment { pass.old.seat.table_id ≡ self.now.table.shared.table_id }
+        requires free { IsFree pass.old }
+        ensures pass { IsStill pass.old pass.new }
+        ensures answer { OfReceived result
+            (λ x. (at : ℕ) × (bare (view_in pass.new) ≡ got_at at x (calm (view_in pass.old))))
+            (bare (view_in pass.new) ≡ told (calm (view_in pass.old)))
+            (bare (view_in pass.new) ≡ calm (view_in pass.old)) }
+        ensures free { IsFree pass.new }
+    {
+        for _ in rt.forever() {
+            match self.find(rt, pass) {
+                Found::Value(value) => return Received::Value(value),
+                Found::Over => return Received::Over,
+                Found::Empty => {}
+            }
+            self.enter_list(rt, pass);
+            match self.find_listed(rt, pass) {
+                Found::Value(value) => {
+                    self.leave_list(rt, pass);
+                    return Received::Value(value);
+                }
+                Found::Over => {
+                    self.leave_list(rt, pass);
+                    return Received::Over;
+                }
+                Found::Empty => {}
+            }
+            if !self.sleep_by(rt, pass, deadline) {
+                self.leave_list(rt, pass);
+                return Received::TimedOut;
+            }
+            match self.find(rt, pass) {
+                Found::Value(value) => return Received::Value(value),
+                Found::Over => return Received::Over,
+                Found::Empty => {}
+            }
+        }
+        unreachable!()
+    }
+}
+
+/// How long it is until the deadline. Zero if it has come, or if there is no clock.
+fn left_until<R: Clock>(rt: &R, deadline: Instant) -> Duration {
+    match Instant::now(rt) {
+        Ok(now) => deadline.saturating_duration_since(now),
+        Err(_) => Duration::ZERO,
+    }
+}
