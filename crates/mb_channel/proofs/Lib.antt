@@ -1,0 +1,10 @@
+mod Back
+mod Chairs
+mod Ends
+mod Logs
+mod Members
+mod Moves
+mod Stays
+mod Theorems
+mod Turns
+mod Views

@@ -1,0 +1,241 @@
+-- Each step keeps the rule of the list.
+use Rattle.std.proofs.Common.{ℕ, zero, suc, true, false, true≢false, List, [], sym, refl, ap, subst, inl, inr, ⊎_elim, arith}
+use Rattle.std.proofs.Common.{◌≡◌, ◌≢◌, ◌+◌, ◌<◌, ◌⊎◌, ◌∷◌, ◌∙◌}
+use Rattle.std.specs.Prelude.{◌==◌, slice_set, slice_index}
+use mathlib.Core.Option as maybe
+use mathlib.Core.Option.{some, none, some-injective, some-ne-none}
+use lib.ListN.{get_elem?}
+use prog.Atomic.{either}
+use Rattle.atomic_table.specs.Table.{State, Act, keeps, takes, gives, step, stepped, Allows, Valid, carried_after, homes_after, put_back, rest}
+use Rattle.atomic_table.proofs.Lists.{exchanged, set_again, at_set, set_else}
+use Rattle.mb_channel.specs.Types.{Home, Homes, Knows, Past}
+use Rattle.mb_channel.specs.Homes.{Agrees, AllPast, Finds, Fits, Grows, IsFree, IsHeld, IsIn, IsNear, IsNext, Keeps, Made, PastFits, Sat, IsSpent}
+use Rattle.mb_channel.specs.Homes.{count, gives_lock, locked, made_by, made_count, rights, takes_lock, unlocked}
+use Rattle.mb_channel.proofs.Views.{not_true, past_map, size_set, there, total_set}
+
+module _ {T : Type 0} where
+  abbrev pub Same : List (Made T) → List (Made T) → ℕ → Type 0
+  Same all new id = (n : ℕ) → n ≢ id → made_by n new ≡ made_by n all
+
+  pub grows_same : (hs : List (Home T)) → Grows hs hs
+  grows_same hs k h at = (h, at, (refl, λ d. d))
+
+  pub next_grows : (hs gs : List (Home T)) → Grows hs gs → (k : ℕ) → IsNext hs k → IsNext gs k
+  next_grows hs gs grows k is = ⊎_elim (λ e. inl e)
+      (λ n. let a = n.2 in let g = grows n.0 a.0 a.1 in inr (n.0, n.1, (g.0, g.1, g.2.1 a.2))) is
+
+  pub near_grows : (hs gs : List (Home T)) → Grows hs gs → (k : ℕ) → IsNear hs k → IsNear gs k
+  near_grows hs gs grows k is = ⊎_elim (λ e. inl e)
+      (λ n. let a = n.2 in let g = grows n.0 a.0 a.1 in inr (n.0, n.1, (g.0, g.1, tt))) is
+
+  pub in_grows : (hs gs : List (Home T)) → Grows hs gs → (v : Knows T) → IsIn hs v → IsIn gs v
+  in_grows hs gs grows v is = let g = grows v.at is.0 is.1 in
+      (g.0, g.1, is.2 ∙ ap (λ s. Rattle.std.specs.Prelude.Some s) (sym g.2.0))
+
+  -- who has rights is not spent
+  pub not_spent : (views : List (Knows T)) (id : ℕ) (v : Knows T) → get_elem? views id ≡ some v → 0 < v.rights
+      → (n : ℕ) → IsSpent views n → n ≢ id
+  not_spent views id v at part n spent = λ q. (
+      let two : some spent.0 ≡ some v = sym spent.1 ∙ (ap (get_elem? views) q ∙ at) in
+      let is : spent.0.rights ≡ v.rights = ap (λ (u : Knows T). u.rights) (some-injective spent.0 v two) in
+      let z = spent.2 in
+      omega arith
+      )
+
+  pub past_stays : (all new : List (Made T)) (views : List (Knows T)) (id : ℕ) (v w : Knows T)
+      → get_elem? views id ≡ some v → 0 < v.rights
+      → Same all new id → (p : Past T) → PastFits all views p → PastFits new (slice_set views id w) p
+  past_stays all new views id v w at part same p x =
+      let ne = not_spent views id v at part p.number x.2 in
+      (x.0 ∙ sym (same p.number ne), x.1, (x.2.0, set_else views id p.number w ne ∙ x.2.1, x.2.2))
+
+  -- a step of one that counts for an end. `mine`: its new view fits
+  pub moved : (s : State (Homes T) (Knows T)) (k : Keeps s) (id : ℕ) (v w : Knows T) → get_elem? s.views id ≡ some v
+      → 0 < v.rights
+      → (hs : List (Home T)) (new : List (Made T)) (n : ℕ) → Grows k.homes hs → Agrees hs new → Same k.all new id
+      → w.rights + k.ends ≡ v.rights + n
+      → ((f : ℕ → ℕ) → count f w + made_count f k.all ≡ count f v + made_count f new)
+      → Fits hs new (slice_set s.views id w) id w
+      → (words : List ℕ) (homes : List (maybe.Option (Homes T)))
+      → (IsFree record { words = words; homes = homes; views = slice_set s.views id w } hs n
+      ⊎ IsHeld record { words = words; homes = homes; views = slice_set s.views id w } hs n)
+      → Keeps record { words = words; homes = homes; views = slice_set s.views id w }
+  moved s k id v w at part hs new n grows agrees same sum weight mine words homes lock = record {
+    homes = hs;
+    all = new;
+    ends = n;
+    lock = lock;
+    agrees = agrees;
+    rights_ = (let t = total_set rights s.views id v w at in let r = k.rights_ in omega arith);
+    balance = λ f. (let t = total_set (count f) s.views id v w at in let b = k.balance f in let d = weight f
+        in omega arith);
+    fresh = λ m long. (
+        let l = size_set s.views id w in
+        let i = there s.views id v at in
+        let apart : m ≢ id = λ q. omega arith in
+        same m apart ∙ k.fresh m (omega arith)
+        );
+    fits = λ j u e. ⊎_elim
+        (λ (t : (j ≡ id) × (w ≡ u)). subst (λ (z : ℕ × Knows T). Fits hs new (slice_set s.views id w) z.0 z.1) (λ i.
+        (sym t.0 i, t.1 i)) mine)
+        (λ (t : (j ≢ id) × (get_elem? s.views j ≡ some u)). let f = k.fits j u t.1 in record {
+          named = λ l. let x = f.named l in (x.0, x.1 ∙ sym (same j t.0));
+          falls = f.falls;
+          near = near_grows k.homes hs grows u.at f.near;
+          inside = λ is. in_grows k.homes hs grows u (f.inside is);
+          takes = λ is. next_grows k.homes hs grows u.at (f.takes is);
+          newborn = λ l. let x = f.newborn l in (x.0, x.1, x.2, λ r. same j t.0 ∙ x.3 r);
+          idle = f.idle;
+          ended = past_map (PastFits k.all s.views) (PastFits new (slice_set s.views id w)) u.ended
+              (past_stays k.all new s.views id v w at part same) f.ended;
+        })
+        (at_set s.views id j w u e);
+  }
+
+  pub has_part : (hs : List (Home T)) (all : List (Made T)) (views : List (Knows T)) (id : ℕ) (v : Knows T)
+      → Fits hs all views id v → v.live ≡ true → 0 < v.rights
+  has_part hs all views id v f live = go v.rights refl
+    where
+      go : (n : ℕ) → v.rights ≡ n → 0 < n
+      go zero e = absurd (true≢false (sym live ∙ (f.idle e).0))
+      go (suc n) e = omega arith
+
+  -- the ended of a view that fits, after its step
+  pub ended_stay : (s : State (Homes T) (Knows T)) (k : Keeps s) (id : ℕ) (v w : Knows T)
+      → get_elem? s.views id ≡ some v → 0 < v.rights
+      → (new : List (Made T)) → Same k.all new id → AllPast (PastFits new (slice_set s.views id w)) v.ended
+  ended_stay s k id v w at part new same = past_map (PastFits k.all s.views) (PastFits new
+      (slice_set s.views id w)) v.ended
+      (past_stays k.all new s.views id v w at part same) (k.fits id v at).ended
+
+  pub stays_word : (s : State (Homes T) (Knows T)) (k : Keeps s) (n : ℕ) → n ≡ slice_index s.words 0
+      → slice_set s.words 0 n ≡ s.words
+  stays_word s k n e = ⊎_elim
+      (λ x. ap (λ m. slice_set s.words 0 m) e ∙ ap (λ l. slice_set l 0 (slice_index l 0)) x.1 ∙ sym x.1)
+      (λ x. ap (λ m. slice_set s.words 0 m) e ∙ ap (λ l. slice_set l 0 (slice_index l 0)) x.1 ∙ sym x.1) k.lock
+
+  pub same_state : (s : State (Homes T) (Knows T)) (k : Keeps s) (id : ℕ) (v : Knows T)
+      → get_elem? s.views id ≡ some v → (n : ℕ) → n ≡ slice_index s.words 0
+      → Keeps record { words = slice_set s.words 0 n; homes = s.homes; views = slice_set s.views id v }
+  same_state s k id v at n e = let vs : slice_set s.views id v ≡ s.views = set_again s.views id v at in
+      let ws = stays_word s k n e in
+      subst (λ (z : List ℕ × List (Knows T)). Keeps record { words = z.0; homes = s.homes; views = z.1 }) (λ i.
+      (sym ws i, sym vs i)) k
+
+  -- ---- the lock
+  pub locks : (slots id : ℕ) (me : Sat T) → me.0.live ≡ true
+      → Allows Keeps slots id me 0 (λ n. either (n == 0) 1 n) (takes_lock (step slots 0 0 1 none) me)
+  locks slots id me live s k len at small =
+      let v = me.0 in
+      let f = k.fits id v at in
+      let part = has_part k.homes k.all s.views id v f live in
+      exchanged (slice_index s.words 0) 0 1
+      (λ m. (w : Knows T) × (a : Act (Homes T)) × Valid s.homes me.1 a × Keeps (stepped s 0 m id me.1 w a)
+      × takes_lock (step slots 0 0 1 none) me (slice_index s.words 0) (w, carried_after me.1 a))
+      (λ e. ⊎_elim
+      (λ free. let l = free.0 in let w = locked l.list.items v in (
+        w,
+        takes 0 l,
+        ap (λ x. get_elem? x 0) free.2,
+        moved s k id v w at part k.homes k.all k.ends (grows_same k.homes) k.agrees (λ n _. refl) refl
+            (λ g. omega arith)
+            record {
+              named = f.named;
+              falls = f.falls;
+              near = f.near;
+              inside = f.inside;
+              takes = f.takes;
+              newborn = f.newborn;
+              idle = λ z. absurd (omega arith);
+              ended = ended_stay s k id v w at part k.all (λ n _. refl);
+            }
+            (slice_set s.words 0 1) (slice_set s.homes 0 none)
+            (inr (
+              id,
+              ap (λ x. slice_set x 0 1) free.1,
+              ap (λ x. slice_set x 0 none) free.2,
+              λ j u e. ⊎_elim (λ (t : (j ≡ id) × (w ≡ u)). λ held. (
+                t.0,
+                ap (λ (z : Knows T). z.before) (sym t.1)
+                    ∙ free.3,
+              ))
+                  (λ (t : (j ≢ id) × (get_elem? s.views j ≡ some u)). λ held. absurd (true≢false (sym held
+                  ∙ free.4 j u t.1)))
+                  (at_set s.views id j w u e),
+            )),
+        ((λ _. (l, refl, subst (λ x. Finds x v) (sym free.3) (f.near, f.inside, f.takes))), λ ne. absurd (ne e)),
+      ))
+      (λ held. let is : slice_index s.words 0 ≡ 1 = ap (λ x. slice_index x 0) held.1 in absurd (omega arith))
+      k.lock)
+      (λ ne. (
+        v,
+        keeps,
+        tt,
+        same_state s k id v at (slice_index s.words 0) refl,
+        ((λ e. absurd (ne e)), λ _. refl),
+      ))
+
+  -- giving the lock back with the list y. `go`: the visits afterwards, and that all fits
+  pub unlocks : (f : Knows T → Knows T) (slots id : ℕ) (me : Sat T) (y : Homes T) → me.1 ≡ (0, y) ∷ []
+      → me.0.live ≡ true → me.0.holds ≡ true
+      → (f (unlocked me.0)).rights ≡ me.0.rights → (f (unlocked me.0)).holds ≡ false
+      → ((s : State (Homes T) (Knows T)) (k : Keeps s) → get_elem? s.views id ≡ some me.0 → 0 < me.0.rights
+      → me.0.before ≡ k.homes
+      → (new : List (Made T)) × Grows k.homes y.list.items × Agrees y.list.items new × Same k.all new id
+      × ((g : ℕ → ℕ) → count g (f (unlocked me.0)) + made_count g k.all ≡ count g me.0 + made_count g new)
+      × Fits y.list.items new (slice_set s.views id (f (unlocked me.0))) id (f (unlocked me.0)))
+      → Allows Keeps slots id me 0 (λ _. 0) (λ _. gives_lock f (step slots 0 0 0 none) me 0)
+  unlocks f slots id me y carried live holds sum lets go s k len at small =
+      ⊎_elim
+      (λ free. absurd (true≢false (sym holds ∙ free.4 id me.0 at)))
+      (λ held.
+      let w = f (unlocked me.0) in
+      let mine = held.3 id me.0 at holds in
+      let part = has_part k.homes k.all s.views id me.0 (k.fits id me.0 at) live in
+      let r = go s k at part mine.1 in
+      let homes' : homes_after s.homes me.1 gives ≡ some y ∷ [] = ap (λ c. put_back s.homes c) carried ∙ ap
+      (λ l. slice_set l 0 (some y)) held.2 in (
+        w,
+        gives,
+        tt,
+        moved s k id me.0 w at part y.list.items r.0 k.ends r.1 r.2 r.3 (ap (λ x. x + k.ends) sum) r.4 r.5
+            (slice_set s.words 0 0) (homes_after s.homes me.1 gives)
+            (inl (
+              y,
+              ap (λ l. slice_set l 0 0) held.1,
+              homes',
+              refl,
+              λ j u e. ⊎_elim (λ (t : (j ≡ id) × (w ≡ u)). ap (λ (z : Knows T). z.holds) (sym t.1) ∙ lets)
+                  (λ (t : (j ≢ id) × (get_elem? s.views j ≡ some u)). not_true u.holds (λ on. t.0
+                  ((held.3 j u t.1 on).0 ∙ sym mine.0)))
+                  (at_set s.views id j w u e),
+            )),
+        (refl, ap rest carried),
+      ))
+      k.lock
+
+  -- nothing was done, or a segment was added, or a pass of one was issued
+  pub unlocks_same : (slots id : ℕ) (me : Sat T) (y : Homes T) → me.1 ≡ (0, y) ∷ [] → me.0.live ≡ true
+      → me.0.holds ≡ true
+      → ((all : List (Made T)) → Agrees me.0.before all → Agrees y.list.items all) → Grows me.0.before y.list.items
+      → Allows Keeps slots id me 0 (λ _. 0) (λ _. gives_lock (λ v. v) (step slots 0 0 0 none) me 0)
+  unlocks_same slots id me y carried live holds agree grows = unlocks
+      (λ v. v) slots id me y carried live holds refl refl
+      (λ s k at part before. let f = k.fits id me.0 at in let g : Grows k.homes y.list.items = subst
+      (λ l. Grows l y.list.items) before grows in (
+        k.all,
+        g,
+        agree k.all (subst (λ l. Agrees l k.all) (sym before) k.agrees),
+        (λ n _. refl),
+        (λ g. omega arith),
+        record {
+          named = f.named;
+          falls = f.falls;
+          near = near_grows k.homes y.list.items g me.0.at f.near;
+          inside = λ is. in_grows k.homes y.list.items g me.0 (f.inside is);
+          takes = λ is. next_grows k.homes y.list.items g me.0.at (f.takes is);
+          newborn = f.newborn;
+          idle = λ z. absurd (omega arith);
+          ended = ended_stay s k id me.0 (unlocked me.0) at part k.all (λ n _. refl);
+        },
+      ))

@@ -1,0 +1,16 @@
+use Rattle.std.proofs.Common.{sym, ap, subst}
+use Rattle.mb_channel.specs.declared.view.Knows.{Knows}
+use Rattle.mb_channel.specs.Homes.{Longer}
+use Rattle.mb_channel.proofs.list.List.append.Goals as goal
+
+pub add_home-added-requires-clause-homes : goal.add_home-added-requires-clause-homes
+add_home-added-requires-clause-homes g c = let x = c.try_lock.ensures.locked c.if-not-try_lock.false in
+    (x.0, x.1, sym (ap (λ (v : Knows _). v.before) x.2.1))
+
+pub unlock-requires-clause-homes : goal.unlock-requires-clause-homes
+unlock-requires-clause-homes g c = let y = c.add_home-added.ensures.homes in (
+  y.0,
+  y.1,
+  subst (λ l. Longer l y.0.list.items) (ap (λ (v : Knows _). v.before)
+      (sym c.add_home-added.ensures.view)) y.2,
+)

@@ -1,0 +1,282 @@
+-- The list of segments under the channel's lock, and which end did what in which segment.
+-- Words: 0 the lock, 1 for how many ends the ends count. Slot 0: the segments.
+use Rattle.std.specs.Prelude.{ℕ, suc, ◌≡◌, ◌≢◌, ◌+◌, ◌-◌, ◌<◌, ◌≤◌, ◌⊎◌, ◌++◌, Bool, true, false, nat_eq, if◌then◌else◌}
+use Rattle.std.specs.Prelude.{List, [], ◌∷◌, length, slice_set, Option, Some, None}
+use mathlib.Core.Option.{some, none}
+use lib.ListN.{get_elem?}
+use Rattle.atomic_table.specs.Table.{Me, State, Step}
+use Rattle.atomic_table.specs.declared.shared.Seat.{Seat}
+use Rattle.mb_channel.specs.Types.{Account, Arc, Global, Home, Homes, Knows, Pass, Past, Segment, View, Visit, arc_value}
+use Rattle.mb_segment.specs.Vocabulary.{hub_view}
+
+-- ---- the visits of all ends, the newest first
+pub record Made (T : Type 0) : Type 0 where
+  pub by : ℕ
+  pub visit : Visit T
+
+-- of one end
+abbrev pub made_by : {T : Type 0} → ℕ → List (Made T) → List (Visit T)
+made_by n [] = []
+made_by n (m ∷ ms) = if nat_eq m.by n then m.visit ∷ made_by n ms else made_by n ms
+
+-- in one segment
+abbrev pub made_in : {T : Type 0} → ℕ → List (Made T) → List (Account T)
+made_in k [] = []
+made_in k (m ∷ ms) = if nat_eq m.visit.segment k then m.visit.account ∷ made_in k ms else made_in k ms
+
+abbrev pub AllMade : {T : Type 0} → (Made T → Type 0) → List (Made T) → Type 0
+AllMade P [] = Unit {0}
+AllMade P (m ∷ ms) = P m × AllMade P ms
+
+-- the segments of the visits fall, from below b on: so each end visits a segment once
+abbrev pub Falls : {T : Type 0} → ℕ → List (Visit T) → Type 0
+Falls b [] = Unit {0}
+Falls b (v ∷ vs) = (v.segment < b) × Falls v.segment vs
+
+-- ---- the segments
+-- what the segment's hub knows of the passes that came back, and whether one of them saw that no value can come any more
+abbrev pub came_back : {T : Type 0} → Home T → List (Account T)
+came_back h = (hub_view h.hub).ends
+
+abbrev pub IsDone : {T : Type 0} → Home T → Type 0
+IsDone h = (hub_view h.hub).over ≡ true
+
+-- segment k is there, and P holds of it
+abbrev pub At : {T : Type 0} → List (Home T) → ℕ → (Home T → Type 0) → Type 0
+At {T} hs k P = (h : Home T) × (get_elem? hs k ≡ some h) × P h
+
+-- nothing waits in the segment before k, for ever
+abbrev pub IsNext : {T : Type 0} → List (Home T) → ℕ → Type 0
+IsNext hs k = (k ≡ 0) ⊎ ((j : ℕ) × (suc j ≡ k) × At hs j IsDone)
+
+-- segment k is there, or it may be the next one
+abbrev pub IsNear : {T : Type 0} → List (Home T) → ℕ → Type 0
+IsNear {T} hs k = (k ≡ 0) ⊎ ((j : ℕ) × (suc j ≡ k) × At hs j (λ _. Unit {0}))
+
+-- the later list has the same segments, and what was done is done
+abbrev pub Grows : {T : Type 0} → List (Home T) → List (Home T) → Type 0
+Grows {T} hs gs = (k : ℕ) (h : Home T) → get_elem? hs k ≡ some h
+    → At gs k (λ g. (g.segment ≡ h.segment) × (IsDone h → IsDone g))
+
+-- the hubs know just the visits
+pub record Agrees {T : Type 0} (hs : List (Home T)) (all : List (Made T)) : Type 0 where
+  pub here : (k : ℕ) (h : Home T) → get_elem? hs k ≡ some h → came_back h ≡ made_in k all
+  pub none_behind : (k : ℕ) → length hs ≤ k → made_in k all ≡ []
+  pub turn : AllMade (λ m. (m.visit.account.got ≡ []) ⊎ IsNext hs m.visit.segment) all
+
+-- ---- the views
+abbrev pub first_view : {T : Type 0} → Knows T
+first_view = record {
+  rights = 1;
+  live = false;
+  number = 0;
+  visits = [];
+  inside = false;
+  at = 0;
+  place = None;
+  takes = false;
+  ended = [];
+  holds = false;
+  before = [];
+}
+
+abbrev pub spent_view : {T : Type 0} → Knows T
+spent_view = record first_view { rights = 0 }
+
+abbrev pub total : {T : Type 0} → (Knows T → ℕ) → List (Knows T) → ℕ
+total f [] = 0
+total f (v ∷ vs) = f v + total f vs
+
+abbrev pub rights : {T : Type 0} → Knows T → ℕ
+rights v = v.rights
+
+-- the visits that an end knows of, its own and those of the ends given back to it. One of end n counts f n
+abbrev pub times : {A : Type 0} → ℕ → List A → ℕ
+times n [] = 0
+times n (x ∷ xs) = n + times n xs
+
+abbrev pub past_count : {T : Type 0} → (ℕ → ℕ) → List (Past T) → ℕ
+past_count f [] = 0
+past_count f (p ∷ ps) = times (f p.number) p.visits + past_count f ps
+
+abbrev pub count : {T : Type 0} → (ℕ → ℕ) → Knows T → ℕ
+count f v = times (f v.number) v.visits + past_count f v.ended
+
+abbrev pub made_count : {T : Type 0} → (ℕ → ℕ) → List (Made T) → ℕ
+made_count f [] = 0
+made_count f (m ∷ ms) = f m.by + made_count f ms
+
+abbrev pub AllPast : {T : Type 0} → (Past T → Type 0) → List (Past T) → Type 0
+AllPast P [] = Unit {0}
+AllPast P (p ∷ ps) = P p × AllPast P ps
+
+-- the end was given back
+abbrev pub IsSpent : {T : Type 0} → List (Knows T) → ℕ → Type 0
+IsSpent {T} views n = (w : Knows T) × (get_elem? views n ≡ some w) × (w.rights ≡ 0)
+
+abbrev pub PastFits : {T : Type 0} → List (Made T) → List (Knows T) → Past T → Type 0
+PastFits all views p = (p.visits ≡ made_by p.number all) × ((b : ℕ) × Falls b p.visits) × IsSpent views p.number
+
+-- where an end is: its segment is that of the list
+abbrev pub IsIn : {T : Type 0} → List (Home T) → Knows T → Type 0
+IsIn hs v = At hs v.at (λ h. v.place ≡ Some h.segment)
+
+-- number id's view
+pub record Fits {T : Type 0} (hs : List (Home T)) (all : List (Made T)) (views : List (Knows T)) (id : ℕ)
+    (v : Knows T) : Type 0 where
+  pub named : v.live ≡ true → (v.number ≡ id) × (v.visits ≡ made_by id all)
+  pub falls : Falls v.at v.visits
+  pub near : IsNear hs v.at
+  pub inside : v.inside ≡ true → IsIn hs v
+  pub takes : v.takes ≡ true → IsNext hs v.at
+  pub newborn : v.live ≡ false → (v.visits ≡ []) × (v.ended ≡ []) × (v.inside ≡ false) × (0 < v.rights
+      → made_by id all ≡ [])
+  pub idle : v.rights ≡ 0 → (v.live ≡ false) × (v.holds ≡ false)
+  pub ended : AllPast (PastFits all views) v.ended
+
+abbrev pub NobodyHolds : {T : Type 0} → List (Knows T) → Type 0
+NobodyHolds {T} views = (id : ℕ) (v : Knows T) → get_elem? views id ≡ some v → v.holds ≡ false
+
+-- only this end has the lock, and it knows the list
+abbrev pub OneHolds : {T : Type 0} → List (Knows T) → List (Home T) → ℕ → Type 0
+OneHolds {T} views hs holder = (id : ℕ) (v : Knows T) → get_elem? views id ≡ some v → v.holds ≡ true
+    → (id ≡ holder) × (v.before ≡ hs)
+
+abbrev pub IsFree : {T : Type 0} → State (Homes T) (Knows T) → List (Home T) → ℕ → Type 0
+IsFree {T} s hs n = (l : Homes T) × (s.words ≡ 0 ∷ n ∷ []) × (s.homes ≡ some l ∷ []) × (l.list.items ≡ hs)
+    × NobodyHolds s.views
+
+abbrev pub IsHeld : {T : Type 0} → State (Homes T) (Knows T) → List (Home T) → ℕ → Type 0
+IsHeld s hs n = (holder : ℕ) × (s.words ≡ 1 ∷ n ∷ []) × (s.homes ≡ none ∷ []) × OneHolds s.views hs holder
+
+pub record Keeps {T : Type 0} (s : State (Homes T) (Knows T)) : Type 0 where
+  pub homes : List (Home T)
+  pub all : List (Made T)
+  pub ends : ℕ
+  pub lock : IsFree s homes ends ⊎ IsHeld s homes ends
+  pub agrees : Agrees homes all
+  pub rights_ : total rights s.views ≡ ends
+  pub balance : (f : ℕ → ℕ) → total (count f) s.views ≡ made_count f all
+  pub fresh : (n : ℕ) → length s.views ≤ n → made_by n all ≡ []
+  pub fits : (id : ℕ) (v : Knows T) → get_elem? s.views id ≡ some v → Fits homes all s.views id v
+
+-- ---- what a step does to a view
+abbrev pub view_in : {T : Type 0} → Seat (Homes T) (Knows T) → Knows T
+view_in p = p.me.0
+
+abbrev pub Sat : Type 0 → Type 0
+Sat T = Me (Homes T) (Knows T)
+
+abbrev pub locked : {T : Type 0} → List (Home T) → Knows T → Knows T
+locked hs v = record v { holds = true; before = hs }
+
+abbrev pub unlocked : {T : Type 0} → Knows T → Knows T
+unlocked v = record v { holds = false; before = [] }
+
+abbrev pub counts_more : {T : Type 0} → Knows T → Knows T
+counts_more v = record v { rights = v.rights + 1 }
+
+abbrev pub counts_less : {T : Type 0} → Knows T → Knows T
+counts_less v = record v { rights = v.rights - 1 }
+
+abbrev pub past_of : {T : Type 0} → Knows T → Past T
+past_of v = record { number = v.number; visits = v.visits }
+
+abbrev pub both : {T : Type 0} → Knows T → Knows T → Knows T
+both v w = record v { rights = v.rights + w.rights; ended = v.ended ++ (past_of w ∷ w.ended) }
+
+-- an end that was not there before. It begins where its maker is
+abbrev pub newborn_view : {T : Type 0} → Knows T → Knows T
+newborn_view v = record first_view { at = v.at; takes = v.takes }
+
+-- it has left its segment, in which it did this. If that is done, it may receive in the next one
+abbrev pub left_segment : {T : Type 0} → Account T → Home T → Knows T → Knows T
+left_segment a h v = record v {
+  visits = record { segment = v.at; account = a } ∷ v.visits;
+  inside = false;
+  at = suc v.at;
+  takes = (hub_view h.hub).over;
+}
+
+-- it has come to its segment, and may receive there or not
+abbrev pub came_to : {T : Type 0} → Home T → Bool → Knows T → Knows T
+came_to h b v = record v { inside = true; place = Some h.segment; takes = b }
+
+-- what an end finds in the list
+abbrev pub Finds : {T : Type 0} → List (Home T) → Knows T → Type 0
+Finds hs v = IsNear hs v.at × (v.inside ≡ true → IsIn hs v) × (v.takes ≡ true → IsNext hs v.at)
+
+-- ---- what a step tells
+abbrev pub takes_lock : {T : Type 0} → Step (Homes T) → Sat T → ℕ → Sat T → Type 0
+takes_lock {T} st m r n = (r ≡ 0 → (l : Homes T) × (n ≡ (locked l.list.items m.0, (0, l) ∷ m.1))
+    × Finds l.list.items m.0)
+    × (r ≢ 0 → n ≡ m)
+
+abbrev pub gives_lock : {T : Type 0} → (Knows T → Knows T) → Step (Homes T) → Sat T → ℕ → Sat T → Type 0
+gives_lock f st m r n = (n.0 ≡ f (unlocked m.0)) × (n.1 ≡ [])
+
+abbrev pub gets_number : {T : Type 0} → Step (Homes T) → Sat T → ℕ → Sat T → Type 0
+gets_number st m r n = (id : ℕ) × (n ≡ (record m.0 { live = true; number = id }, m.1))
+
+abbrev pub counting : {T : Type 0} → Step (Homes T) → Sat T → ℕ → Sat T → Type 0
+counting st m r n = (n.1 ≡ m.1) × (r ≡ st.first → n.0 ≡ counts_more m.0) × (r ≢ st.first → n.0 ≡ m.0)
+
+-- it leaves its segment, whose hub has just taken back its pass
+abbrev pub leaves : {T : Type 0} → Step (Homes T) → Sat T → ℕ → Sat T → Type 0
+leaves {T} st m r n = (a : Account T) × (l : Homes T) × (m.1 ≡ (0, l) ∷ [])
+    × At l.list.items m.0.at (λ h. ((before : List (Account T)) × (came_back h ≡ a ∷ before))
+    × (n.0 ≡ left_segment a h (unlocked m.0)))
+    × (n.1 ≡ [])
+
+-- it comes to the segment at which it is, whose hub has just issued a pass
+abbrev pub comes : {T : Type 0} → Bool → Step (Homes T) → Sat T → ℕ → Sat T → Type 0
+comes {T} b st m r n = (h : Home T) × (l : Homes T) × (m.1 ≡ (0, l) ∷ []) × (get_elem? l.list.items m.0.at ≡ some h)
+    × (n.0 ≡ came_to h b (unlocked m.0)) × (n.1 ≡ [])
+
+-- ---- what a hub did under the lock
+-- it took back a pass with this view
+abbrev pub HasTakenBack : {T : Type 0} → Home T → Home T → View T → Type 0
+HasTakenBack h g v = (g.segment ≡ h.segment) × (came_back g ≡ v.account ∷ came_back h) × (IsDone h → IsDone g)
+    × (v.over ≡ true → IsDone g)
+
+-- it issued a pass, and knows no more than before
+abbrev pub HasIssued : {T : Type 0} → Home T → Home T → Type 0
+HasIssued h g = (g.segment ≡ h.segment) × (came_back g ≡ came_back h) × (IsDone h → IsDone g)
+
+-- the home at k has changed so
+abbrev pub Changes : {T : Type 0} → List (Home T) → List (Home T) → ℕ → (Home T → Home T → Type 0) → Type 0
+Changes {T} hs gs k P = (h : Home T) × (g : Home T) × (get_elem? hs k ≡ some h) × (gs ≡ slice_set hs k g) × P h g
+
+-- the list, with one segment more or not, of which nobody came back
+abbrev pub Longer : {T : Type 0} → List (Home T) → List (Home T) → Type 0
+Longer {T} hs gs = (gs ≡ hs) ⊎ ((h : Home T) × (came_back h ≡ []) × (gs ≡ hs ++ h ∷ []))
+
+-- the pass is of this segment
+abbrev pub IsPassOf : {T : Type 0} → Option (Arc (Segment T Global) Global) → Pass T → Type 0
+IsPassOf {T} place p = (s : Arc (Segment T Global) Global) × (place ≡ Some s) × (p.seat.table_id ≡
+    (arc_value s).table.shared.table_id)
+
+-- the view of an end that has done nothing
+abbrev pub IsFirst : {T : Type 0} → Knows T → Type 0
+IsFirst v = (v.rights ≡ 1) × (v.visits ≡ []) × (v.ended ≡ []) × (v.inside ≡ false)
+
+-- ---- at the end
+abbrev pub IsNone : {T : Type 0} → ℕ → List (Past T) → Type 0
+IsNone n [] = Unit {0}
+IsNone n (p ∷ ps) = (p.number ≢ n) × IsNone n ps
+
+-- once an end has taken back all others: what each did in which segment is what the hubs know, and nobody else did anything
+pub record IsWhole {T : Type 0} (v : Knows T) (hs : List (Home T)) : Type 0 where
+  pub all : List (Made T)
+  pub agrees : Agrees hs all
+  pub own : (v.visits ≡ made_by v.number all) × Falls v.at v.visits
+  pub others : AllPast (λ p. (p.visits ≡ made_by p.number all) × ((b : ℕ) × Falls b p.visits)) v.ended
+  pub nobody : (n : ℕ) → v.number ≢ n → IsNone n v.ended → made_by n all ≡ []
+
+-- the seat has the list, of which this holds
+abbrev pub HoldsHomes : {T : Type 0} → Sat T → (List (Home T) → Type 0) → Type 0
+HoldsHomes {T} m P = (l : Homes T) × (m.1 ≡ (0, l) ∷ []) × P l.list.items
+
+-- the end has a number, and not the lock
+abbrev pub IsReady : {T : Type 0} → Sat T → Type 0
+IsReady m = (m.0.live ≡ true) × (m.0.holds ≡ false) × (m.0.before ≡ []) × (m.1 ≡ [])

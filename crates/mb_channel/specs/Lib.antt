@@ -1,0 +1,6 @@
+pub mod ChannelTheorem
+pub mod ChannelSamples
+pub mod Segments
+pub mod Stays
+pub mod Types
+pub mod Homes

@@ -1,0 +1,26 @@
+//! The laws of a channel. The functions compute nothing: their contracts are the laws.
+ghost use Rattle.std.specs.Prelude.{ℕ, List};
+ghost use Rattle.mb_channel.specs.ChannelTheorem.{EachMoment, End, History, Moment, Segment, WholeLife, life};
+ghost use Rattle.mb_channel.specs.Stays.{AreStays, Told, life_of};
+ghost use Rattle.mb_channel.specs.Segments.{AreLogs, EachKeeps, InTurn, KeepsEnd, TakenInTurn};
+
+/// At each moment: if each segment keeps its own rule, and they follow each other in turn, the channel's points hold.
+pub fn moments_keep_the_theorem<T>()
+    ensures moment { (m : Moment T) → EachKeeps m.segments → InTurn m.segments → KeepsEnd m
+        → EachMoment m }
+    ensures turn { (m : Moment T) → EachKeeps m.segments → InTurn m.segments
+        → TakenInTurn (life m) }
+{}
+
+/// Of a whole life: segments that were taken in turn make one channel. Each end did there what it did in the segments.
+pub fn lives_keep_the_theorem<T>()
+    ensures life { (hs : List (History T)) (ends : ℕ → End T) (back : List T)
+        → TakenInTurn hs → AreLogs hs ends back → WholeLife hs ends back }
+{}
+
+/// Of a whole life: in each segment an end had one pass at most. What the segments tell of their passes is the whole life
+/// of the channel, told of its ends.
+pub fn passes_make_ends<T>()
+    ensures life { (ts : List (Told T)) (ends : ℕ → End T) (back : List T)
+        → AreStays ts ends back → WholeLife (life_of ts) ends back }
+{}

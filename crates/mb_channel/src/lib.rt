@@ -1,0 +1,14 @@
+//! A channel for any number of senders and receivers: so far its theorem, as laws over all histories, and the list of
+//! segments on which it will stand.
+#![tactic(auto)]
+
+mod home;
+pub mod laws;
+mod list;
+mod passes;
+mod rule;
+pub mod samples;
+mod view;
+
+pub use home::{Home, Homes};
+pub use view::{Knows, Past, Visit};

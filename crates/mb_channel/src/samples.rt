@@ -1,0 +1,53 @@
+//! Samples of the theorem's definitions: what they admit, and what only looks right. The functions compute nothing:
+//! their contracts are the samples.
+ghost use Rattle.std.specs.Prelude.{[], ◌∷◌, true, false};
+ghost use Rattle.mb_channel.specs.ChannelSamples.{forgotten, one_sender, one_taken, overtaken, overtaken_life, swapped_life};
+ghost use Rattle.mb_channel.specs.ChannelSamples.{taken_twice, two_and_two, two_segments, unheeded, unheeded_life};
+ghost use Rattle.mb_channel.specs.ChannelSamples.{ended, refused_beside_a_receiver, told_beside_a_sender, told_too_soon, value_behind};
+ghost use Rattle.mb_channel.specs.ChannelSamples.{looked_for, overslept, slept_past_the_end, slept_through_the_end, token_elsewhere};
+ghost use Rattle.mb_channel.specs.ChannelSamples.{sleepers, two_forsaken, two_wait};
+ghost use Rattle.mb_channel.specs.ChannelTheorem.{EachBounded, EachMoment, WholeLife};
+
+/// Points 1 to 3. A life over two segments is admitted. Refused: values of one sender that stand in another order, a
+/// value that stands before one that its sender knew of, a value that two received, one that overtook another, one that
+/// its taker did not receive, and one that is left and not given back.
+pub fn sample_lives()
+    ensures admitted { WholeLife two_segments two_and_two (11 ∷ []) }
+    ensures swapped { WholeLife swapped_life one_sender (11 ∷ 10 ∷ []) → ⊥ }
+    ensures unheeded { WholeLife unheeded_life unheeded (20 ∷ 10 ∷ []) → ⊥ }
+    ensures twice { WholeLife one_taken taken_twice [] → ⊥ }
+    ensures overtaken { WholeLife overtaken_life overtaken (10 ∷ []) → ⊥ }
+    ensures forgotten { WholeLife one_taken forgotten [] → ⊥ }
+    ensures lost { WholeLife two_segments two_and_two [] → ⊥ }
+{}
+
+/// Point 4. An end after all was taken is admitted. Refused: "closed" told beside a value or a sender, an empty segment
+/// with a value before it, and a send that is refused beside a receiver.
+pub fn sample_answers()
+    ensures ended { EachMoment ended }
+    ensures too_soon { EachMoment told_too_soon → ⊥ }
+    ensures sender { EachMoment told_beside_a_sender → ⊥ }
+    ensures behind { EachMoment value_behind → ⊥ }
+    ensures refused { EachMoment refused_beside_a_receiver → ⊥ }
+{}
+
+/// Point 5. One that sleeps beside a value is admitted while the value's sender owes a look. Refused: that nobody does,
+/// that a token is there for it in another segment, and that one sleeps after the end, in a segment cut or not.
+pub fn sample_sleep()
+    ensures looked_for { EachMoment looked_for }
+    ensures overslept { EachMoment overslept → ⊥ }
+    ensures elsewhere { EachMoment token_elsewhere → ⊥ }
+    ensures past_the_end { EachMoment slept_past_the_end → ⊥ }
+    ensures through_the_end { EachMoment slept_through_the_end → ⊥ }
+{}
+
+/// Two values wait, with a bound of 2: a send is told "full", and a sender may sleep. Refused: a bound of 1 if none
+/// came back, "full" with a bound of 3, and a sender that sleeps beside room or after the last receiver's end.
+pub fn sample_bounds()
+    ensures full { EachBounded 2 0 (sleepers 1 0 0 0) true two_wait }
+    ensures returned { EachBounded 1 1 (sleepers 1 0 0 0) true two_wait }
+    ensures above { EachBounded 1 0 (sleepers 0 0 0 0) false two_wait → ⊥ }
+    ensures not_full { EachBounded 3 0 (sleepers 0 0 0 0) true two_wait → ⊥ }
+    ensures beside_room { EachBounded 3 0 (sleepers 1 0 0 0) false two_wait → ⊥ }
+    ensures forsaken { EachBounded 2 0 (sleepers 1 0 0 0) false two_forsaken → ⊥ }
+{}

@@ -1,0 +1,39 @@
+//! What an end knows. No value of it is made.
+use crate::home::Home;
+use mb_segment::{Account, Segment};
+use std::alloc::Global;
+use std::collections::LinkedList;
+use std::sync::Arc;
+
+/// What an end did in a segment that it left.
+pub struct Visit<T> {
+    pub segment: u64,
+    pub account: Account<T>,
+}
+
+/// An end that was given back: its number and its visits, the newest first.
+pub struct Past<T> {
+    pub number: u64,
+    pub visits: LinkedList<Visit<T>>,
+}
+
+pub struct Knows<T: Drop> {
+    /// How many ends it counts for.
+    pub rights: u64,
+    /// Whether it has a number.
+    pub live: bool,
+    pub number: u64,
+    /// Its visits, the newest first.
+    pub visits: LinkedList<Visit<T>>,
+    /// Whether it has a pass of a segment, and of which.
+    pub inside: bool,
+    pub at: u64,
+    pub place: Option<Arc<Segment<T, Global>, Global>>,
+    /// Whether it may receive there.
+    pub takes: bool,
+    /// The ends that were given back to it.
+    pub ended: LinkedList<Past<T>>,
+    /// Whether it has the lock, and the segments that it found.
+    pub holds: bool,
+    pub before: LinkedList<Home<T>>,
+}
