@@ -74,22 +74,22 @@ fn a_value_sent_after_a_message_comes_after_what_the_other_sent() {
         let other = sender.clone();
         let taken: Vec<_> = thread::scope(|scope| {
             scope.spawn(|| {
-                for it in 0..10_000 {
+                for it in 0..1_000 {
                     other.send(2 * it).unwrap();
                     there.0.send(()).unwrap();
                     back.1.recv().unwrap();
                 }
             });
             scope.spawn(|| {
-                for it in 0..10_000 {
+                for it in 0..1_000 {
                     there.1.recv().unwrap();
                     sender.send(2 * it + 1).unwrap();
                     back.0.send(()).unwrap();
                 }
             });
-            receiver.iter().take(20_000).collect()
+            receiver.iter().take(2_000).collect()
         });
-        assert!(taken.into_iter().eq(0..20_000));
+        assert!(taken.into_iter().eq(0..2_000));
     }
 }
 

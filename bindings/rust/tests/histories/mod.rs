@@ -172,7 +172,7 @@ impl Plan {
                     end: dice.under(receivers),
                 },
                 20..=21 => Call::Len,
-                22 if dice.under(3) == 0 => Call::Close,
+                22 => Call::Close,
                 23 if senders > 0 => Call::CloneSender,
                 24 if receivers > 0 => Call::CloneReceiver,
                 25 if senders > 0 => Call::DropSender,
