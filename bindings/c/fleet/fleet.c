@@ -194,8 +194,10 @@ static bool put_or_hold(struct job *job) {
     pthread_mutex_lock(&lock);
     shared.waiting--;
     pthread_mutex_unlock(&lock);
+    /* (a job that failed too often is here if it could not be stored as dead then) */
+    const char *reason = job->tries.failed > 0 ? "a job failed, or ended its process" : "a job ended its process each time";
     if (!is_alone)
-        settle(job, is_dead ? DEAD : LEFT, "a job ended its process each time");
+        settle(job, is_dead ? DEAD : LEFT, reason);
     return is_alone;
 }
 

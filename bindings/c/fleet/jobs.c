@@ -87,7 +87,8 @@ void settle(struct job *job, enum outcome outcome, const char *reason) {
     outcome = judge(job, outcome, reason);
     if (what[outcome])
         say("message %" PRIu64 ": %s, and %s", job->sequence, reason, what[outcome]);
-    uint64_t tries = most_tries > 0 ? job->tries.failed : job->delivery, wait = outcome == FAILED ? backoff : 0;
+    bool is_counted = most_tries > 0 && !is_worn_out(job); /* (else each delivery counts, as if there were no limit) */
+    uint64_t tries = is_counted ? job->tries.failed : job->delivery, wait = outcome == FAILED ? backoff : 0;
     for (uint64_t i = 1; i < tries && wait < 3600 * SECOND; i++)
         wait *= 2;
     wait = wait < 3600 * SECOND ? wait : 3600 * SECOND;
