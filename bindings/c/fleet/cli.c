@@ -147,12 +147,13 @@ jsStreamInfo *reach_server(natsConnection **connection, jsCtx **jets, natsOption
     status = status ? status : natsOptions_SetName(to, program);
     status = status ? status : natsConnection_Connect(connection, to);
     status = status ? status : natsConnection_JetStream(jets, *connection, patience);
+    const char *shown = strchr(server, '@') ? "of --server" : server; /* (before an @ there may be a password) */
     if (status)
-        quit(1, "the server %s: %s", server, why(status));
+        quit(1, "the server %s: %s", shown, why(status));
     natsOptions_Destroy(to);
     status = js_GetStreamInfo(&info, *jets, stream, NULL, &error);
     if (status == NATS_NO_RESPONDERS)
-        quit(1, "the server %s has no JetStream: start it with -js", server);
+        quit(1, "the server %s has no JetStream: start it with -js", shown);
     if (status && error != JSStreamNotFoundErr)
         quit(1, "the stream %s: %s", stream, why(status));
     return info;

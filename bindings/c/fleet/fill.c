@@ -88,6 +88,8 @@ static jsStreamInfo *prepare(jsCtx *jets, jsStreamInfo *info) {
     jsStreamConfig *config = info ? info->Config : &fresh;
     if (config->Discard == js_DiscardOld && (config->MaxMsgs > 0 || config->MaxBytes > 0))
         quit(1, "the stream %s drops old jobs when it is full: set its discard policy to new", stream);
+    if (config->MaxMsgsPerSubject > 0 && !config->DiscardNewPerSubject)
+        quit(1, "the stream %s drops old jobs of a subject: it may have no limit of messages per subject", stream);
     int64_t wanted = (int64_t)window * SECOND * MILLISECOND;
     if (info && config->Duplicates >= wanted)
         return info;

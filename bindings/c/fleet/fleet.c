@@ -35,6 +35,7 @@ jsCtx *jets;
 int64_t created;
 atomic_bool has_fault, is_gone;
 static natsSubscription *subscription;
+static _Atomic int64_t newest_before; /* when the newest job was stored that came before the server went away last */
 static bool may_stay; /* whether an acknowledged message leaves the stream, of which no other server has a copy */
 
 void fail(const char *format, ...) {
@@ -44,7 +45,8 @@ void fail(const char *format, ...) {
     va_start(words, format);
     say_list(format, words);
     va_end(words);
-    kill(getpid(), SIGTERM);
+    if (!shared.is_stopping) /* (else it would be a second signal) */
+        kill(getpid(), SIGTERM);
 }
 
 bool is_connected(void) {
@@ -76,7 +78,8 @@ static void *work(void *number) {
 }
 
 /* Takes out of the stream what was acknowledged and is still there: a server that was killed forgets that it removed it.
- * All up to the consumer's floor is acknowledged. */
+ * All up to the consumer's floor is acknowledged, but not a job that took the number of one which the server has lost: such
+ * a job was stored after the server went away, and stays. */
 static void remove_stayed(const jsConsumerInfo *consumer) {
     const char *filter = consumer->Config->FilterSubject; /* (a floor would pass over what it leaves out) */
     uint64_t floor = consumer->AckFloor.Stream, count = 0;
@@ -90,7 +93,12 @@ static void remove_stayed(const jsConsumerInfo *consumer) {
         if (first > floor || first <= seen)
             break;
         seen = first;
-        status = js_DeleteMsg(jets, stream, first, NULL, NULL);
+        natsMsg *message = NULL;
+        status = js_GetMsg(&message, jets, stream, first, NULL, NULL);
+        if (status == NATS_OK && natsMsg_GetTime(message) > newest_before)
+            status = NATS_NOT_FOUND;
+        natsMsg_Destroy(message);
+        status = status ? status : js_DeleteMsg(jets, stream, first, NULL, NULL);
         count += status == NATS_OK;
     }
     if (count > 0)
@@ -101,7 +109,6 @@ static void remove_stayed(const jsConsumerInfo *consumer) {
 static void *watch(void *nothing) {
     int64_t quarter = (int64_t)ack * SECOND / 4;
     for (int without = 0; without < 4; without++) {
-        nats_Sleep(quarter);
         tell_progress();
         jsConsumerInfo *info = NULL;
         jsErrCode error = 0;
@@ -118,6 +125,7 @@ static void *watch(void *nothing) {
             remove_stayed(info);
         }
         jsConsumerInfo_Destroy(info);
+        nats_Sleep(quarter);
     }
     fail("the server has no JetStream any more");
     return nothing;
@@ -186,8 +194,10 @@ static bool put_or_hold(struct job *job) {
     pthread_mutex_lock(&lock);
     shared.waiting--;
     pthread_mutex_unlock(&lock);
+    /* (a job that failed too often is here if it could not be stored as dead then) */
+    const char *reason = job->tries.failed > 0 ? "a job failed, or ended its process" : "a job ended its process each time";
     if (!is_alone)
-        settle(job, is_dead ? DEAD : LEFT, "a job ended its process each time");
+        settle(job, is_dead ? DEAD : LEFT, reason);
     return is_alone;
 }
 
@@ -239,8 +249,10 @@ static void closed(natsConnection *it, void *nothing) {
 
 static void lost(natsConnection *it, void *nothing) {
     (void)nothing;
-    if (!natsConnection_IsClosed(it))
-        say("the server is away, and is tried again and again");
+    if (natsConnection_IsClosed(it))
+        return;
+    newest_before = newest_stored();
+    say("the server is away, and is tried again and again");
 }
 
 static void found(natsConnection *it, void *nothing) {

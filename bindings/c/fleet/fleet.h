@@ -34,6 +34,7 @@ struct tries {
     uint64_t known;   /* of the deliveries up to this one it is known how each ended */
     uint64_t alone;   /* the delivery in which a process began to run it alone, if the end of that is not known, or 0 */
     bool is_suspect;  /* whether a delivery was cut off */
+    bool is_unread;   /* whether the server did not tell the record, which is not written then */
 };
 
 /* A place for a message, whose sequence and time are the same each time that the server hands it out. */
@@ -65,8 +66,8 @@ extern struct shared {
 /* What this process counts. `held` is how many jobs it has: those of `waiting`, of `running` and the suspects. */
 extern struct counts {
     _Atomic uint64_t outcomes[OUTCOMES], dropped, redelivered, mailboxes, held;
-    _Atomic uint64_t lost;    /* jobs of whose end the server was not told, since the process is to stop */
-    _Atomic uint64_t pending; /* jobs of the stream that no process has */
+    _Atomic uint64_t lost;    /* jobs whose end the server did not confirm, since it last did or the process is to stop */
+    _Atomic uint64_t pending; /* jobs of the stream that the server never handed out */
 } counts;
 
 extern natsConnection *connection;
@@ -74,11 +75,12 @@ extern jsCtx *jets;
 extern int64_t created; /* when the stream was made */
 extern atomic_bool has_fault, is_gone; /* the second: there is no stream any more */
 
-/* Says what is wrong, if nothing was before, and sends the signal to stop. All threads block it, and one awaits it. */
+/* Says what is wrong, if nothing was before. Unless the process stops already, it sends the signal to stop, which all threads
+ * block, and one awaits. */
 LINE(1, 2) void fail(const char *format, ...);
 bool is_connected(void);
 
-/* run.c: what a job does. */
+/* run.c: what a job does. `run` returns DONE, FAILED or BAD. */
 extern const struct option options_of_run[];
 void prepare_run(void);
 enum outcome run(struct work *work);
@@ -95,6 +97,7 @@ void perform(struct job *job, uint64_t worker);
 void settle(struct job *job, enum outcome outcome, const char *why);
 void tell_progress(void);
 void acknowledge_again(void);
+int64_t newest_stored(void);
 
 /* tries.c: the limit of tries, and the stream of dead letters. */
 void prepare_tries(const jsStreamConfig *of_jobs);

@@ -67,7 +67,7 @@ static natsStatus confirm(natsMsg *message, const char *end) {
 /* Counts how a job ended, and what that means under the limit of tries. Returns what the server is to be told. */
 static enum outcome judge(struct job *job, enum outcome outcome, const char *reason) {
     counts.outcomes[outcome] += outcome == DONE || outcome == FAILED || outcome == BAD;
-    job->tries.failed += outcome == FAILED;
+    job->tries.failed += outcome == FAILED || outcome == BAD;
     if (most_tries == 0 || outcome == DONE)
         return outcome;
     if (outcome == BAD || outcome == DEAD || is_worn_out(job)) {
@@ -86,8 +86,9 @@ void settle(struct job *job, enum outcome outcome, const char *reason) {
         [FAILED] = "is given back", [BAD] = "is ended", [DEAD] = "goes to the dead letters"};
     outcome = judge(job, outcome, reason);
     if (what[outcome])
-        say("%s, and %s", reason, what[outcome]);
-    uint64_t tries = most_tries > 0 ? job->tries.failed : job->delivery, wait = outcome == FAILED ? backoff : 0;
+        say("message %" PRIu64 ": %s, and %s", job->sequence, reason, what[outcome]);
+    bool is_counted = most_tries > 0 && !is_worn_out(job); /* (else each delivery counts, as if there were no limit) */
+    uint64_t tries = is_counted ? job->tries.failed : job->delivery, wait = outcome == FAILED ? backoff : 0;
     for (uint64_t i = 1; i < tries && wait < 3600 * SECOND; i++)
         wait *= 2;
     wait = wait < 3600 * SECOND ? wait : 3600 * SECOND;
@@ -104,7 +105,7 @@ void settle(struct job *job, enum outcome outcome, const char *reason) {
         forget_tries(job);
     counts.outcomes[outcome] += (outcome == LEFT && !status) || outcome == DEAD;
     pthread_mutex_lock(&lock);
-    counts.lost += status && shared.is_stopping;
+    counts.lost = status ? counts.lost + 1 : shared.is_stopping ? counts.lost : 0;
     char *answer = is_ended ? strdup(natsMsg_GetReply(job->message)) : NULL; /* (without memory it is not sent again) */
     natsMsg_Destroy(job->message);
     *job = (struct job){.sequence = is_ended ? job->sequence : 0, .stored = job->stored, .answer = answer};
@@ -159,11 +160,24 @@ static bool is_to_be_told(void) {
     return is_same;
 }
 
+/* Returns when the newest job was stored that this process has, or has had. */
+int64_t newest_stored(void) {
+    int64_t newest = 0;
+    pthread_mutex_lock(&lock);
+    for (struct job *job = places; job < places + PLACES; job++)
+        newest = job->stored > newest ? job->stored : newest;
+    pthread_mutex_unlock(&lock);
+    return newest;
+}
+
 /* Acknowledges again what this process has done lately: a server that was killed has forgotten some of it. A stream that
  * was made anew, or has lost its newest messages, gives these numbers to other jobs: then nothing is acknowledged again.
  * Replicas forget nothing. */
 void acknowledge_again(void) {
     bool is_due = is_to_be_told();
+    pthread_mutex_lock(&lock);
+    counts.lost = shared.is_stopping ? counts.lost : 0; /* (they come again, if they are not told now) */
+    pthread_mutex_unlock(&lock);
     for (struct job *job = places; job < places + PLACES && is_due; job++) {
         char answer[512] = "";
         pthread_mutex_lock(&lock);

@@ -16,7 +16,7 @@ static const struct {
     {"redelivered", "counter", "Messages that the server had handed out before."},
     {"waiting", "gauge", "Jobs that the process has and that do not run yet."},
     {"running", "gauge", "Jobs that run."},
-    {"waiting in the stream", "gauge", "Jobs of the stream that no process has."},
+    {"waiting in the stream", "gauge", "Jobs of the stream that the server never handed out."},
     {"connected", "gauge", "Whether the server is there."},
     {"mailboxes", "counter", "Mailboxes that were made."},
     {"unsettled", "gauge", "At the end: jobs of whose end the server was not told."},
@@ -57,9 +57,11 @@ static void write_metrics(const uint64_t now[VALUES]) {
         say("%s: %s", metrics, strerror(errno));
 }
 
-/* Says all values in a line, and in the file. */
+/* Says all values in a line, and in the file. Two threads may call it: one waits, so that neither mixes with the other. */
 void report(void) {
+    static pthread_mutex_t turn = PTHREAD_MUTEX_INITIALIZER;
     uint64_t now[VALUES];
+    pthread_mutex_lock(&turn);
     read_values(now);
     printf("process %d:", (int)getpid());
     for (int i = 0; i < VALUES; i++)
@@ -68,4 +70,5 @@ void report(void) {
     fflush(stdout);
     if (metrics)
         write_metrics(now);
+    pthread_mutex_unlock(&turn);
 }

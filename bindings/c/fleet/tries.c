@@ -40,7 +40,8 @@ bool load_tries(struct job *job) {
     int64_t stored = 0;
     int suspect = 0;
     natsStatus status = js_GetLastMsg(&message, jets, records, subject_of(job, subject), NULL, &error);
-    if (status && error != JSNoMessageFoundErr)
+    job->tries.is_unread = status && error != JSNoMessageFoundErr;
+    if (job->tries.is_unread)
         return false;
     int count = status ? 0
                        : sscanf(natsMsg_GetData(message), "%" SCNd64 " %" SCNu64 " %" SCNu64 " %" SCNu64 " %" SCNu64 " %d",
@@ -57,7 +58,7 @@ bool load_tries(struct job *job) {
 }
 
 static bool write_record(struct job *job, uint64_t known, uint64_t alone) {
-    if (!is_connected() || is_gone)
+    if (!is_connected() || is_gone || job->tries.is_unread)
         return false;
     struct tries *it = &job->tries;
     char subject[MOST_NAME + 22], text[160];
@@ -104,11 +105,10 @@ bool is_worn_out(const struct job *job) {
 
 /* Puts a job into the stream of dead letters, with headers that say why. Returns whether it is stored there. */
 bool bury(struct job *job, const char *reason) {
-    char id[64], tries[24], sequence[24], line[MOST_WHY], count[24];
+    char id[64], tries[24], sequence[24], line[MOST_WHY];
     snprintf(id, sizeof id, "%" PRIu64 "-%" PRId64, job->sequence, job->stored); /* (so it is stored once) */
     snprintf(tries, sizeof tries, "%" PRIu64, tries_of(job));
     snprintf(sequence, sizeof sequence, "%" PRIu64, job->sequence);
-    snprintf(count, sizeof count, "%" PRIu64, job->tries.crashed + 1);
     snprintf(line, sizeof line, "%s", reason);
     for (char *it = line; *it; it++)
         *it = isprint((unsigned char)*it) ? *it : '?';

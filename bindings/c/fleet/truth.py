@@ -1,5 +1,6 @@
 """What fleet and fill say is so: of jobs that the server refused, servers without JetStream, and streams that go."""
 import re
+import shutil
 import signal
 import time
 
@@ -120,6 +121,32 @@ def server_killed():
     print(f"fleet: after a kill of the server {again} of 15000 jobs ran again in another process, {stayed = }")
 
 
+def numbers_again():
+    """A server lost its newest jobs, and not that they were acknowledged. Jobs with their numbers stay, until they run."""
+    server, messages = Server("numbers"), "numbers.store/jetstream/$G/streams/NUMBERS/msgs"
+    fill(server, "NUMBERS", range(5))
+    process = fleet(server, "NUMBERS", ack=1)
+    wait(lambda: server.left("NUMBERS") == 0)
+    server.kill(signal.SIGTERM)
+    shutil.copytree(messages, "numbers.older")
+    server.start()
+    fill(server, "NUMBERS", range(5, 10), name="two")
+    wait(lambda: server.left("NUMBERS") == 0)
+    server.kill(signal.SIGTERM)
+    shutil.rmtree(messages)
+    shutil.copytree("numbers.older", messages)
+    server.start()
+    fill(server, "NUMBERS", range(10, 13), name="three")
+    time.sleep(2)
+    end(process)
+    assert server.left("NUMBERS") == 3, "jobs that did not run were removed"
+    server.ask("CONSUMER.DELETE.NUMBERS.fleet")
+    process = fleet(server, "NUMBERS")
+    wait(lambda: server.left("NUMBERS") == 0)
+    end(process)
+    expect_each("NUMBERS", range(13))
+
+
 def drain():
     """A process that is to stop gives back what waits at once. It ends in time, and says what the server was not told."""
     server = Server("drain")
@@ -151,4 +178,4 @@ def drain():
         server.process.send_signal(signal.SIGCONT)
 
 
-parts = [fill_counts, fill_again, no_jetstream, stream_goes, jobs_of_any_bytes, server_killed, drain]
+parts = [fill_counts, fill_again, no_jetstream, stream_goes, jobs_of_any_bytes, server_killed, numbers_again, drain]
