@@ -94,6 +94,7 @@ impl<T> Chain<T> {
     #[inline]
     pub(crate) fn put(&self, value: T, who: u64) -> Result<(), Refused<T>> {
         let mut lane = lock(&self.lane);
+        // (`Relaxed` suffices here and below: the word is stored under this lock alone)
         let (put, plain) = (self.put.0.load(Relaxed), lane.plain);
         match &mut lane.writer {
             Some(writer) if put < plain => writer.put(value),
