@@ -124,7 +124,8 @@ def main():
             write(f"{room}/tests/tests/{name}.rs", "#![allow(warnings)]\n" + text)
             for label, reason in left:
                 print(f"left out: {label}: {reason}")
-        run = ["cargo", "test", "--offline", "--quiet", "--release", "--no-fail-fast", "--tests", *sys.argv[1:]]
+        # (a test may sleep for ever)
+        run = ["timeout", "900", "cargo", "test", "--offline", "--quiet", "--release", "--no-fail-fast", "--tests", *sys.argv[1:]]
         for cells in CELLS:
             env = {**os.environ, "CELLS": cells, "RUSTFLAGS": "--cap-lints allow"}
             done = subprocess.run(run, cwd=f"{room}/tests", env=env, text=True, capture_output=True)
