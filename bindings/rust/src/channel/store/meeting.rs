@@ -194,6 +194,10 @@ impl<T> Meeting<T> {
         let ticket = table.ticket(is_task);
         let bell = Arc::clone(&ticket.bell);
         table.waiting.insert(ticket.number, (bell, is_task));
+        // (else a later value could be left for it before it looks)
+        if let Some(sent) = table.spare.pop_front() {
+            drop(table.leave(sent));
+        }
         ticket
     }
 
