@@ -16,7 +16,8 @@ use std::sync::{Arc, Mutex, MutexGuard, TryLockError};
 pub(crate) struct Chain<T> {
     plan: Plan<T>,
     status: Status,
-    lane: Mutex<Lane<T>>,
+    /// (Senders write it again and again, so it stands apart, too.)
+    lane: Line<Mutex<Lane<T>>>,
     /// How many values were put. It is stored after the value can be taken, and before its put returns. (It stands apart,
     /// since receivers read it again and again.)
     put: Line<AtomicU64>,
@@ -65,11 +66,11 @@ impl<T> Chain<T> {
         Chain {
             plan,
             status: Status::open(),
-            lane: Mutex::new(Lane {
+            lane: Line(Mutex::new(Lane {
                 writer: None,
                 full: None,
                 plain: 0,
-            }),
+            })),
             put: Line(AtomicU64::new(0)),
             taken: Line(AtomicU64::new(0)),
             head: Mutex::new(None),
@@ -93,7 +94,7 @@ impl<T> Chain<T> {
     /// Puts a value at the end, under the lane's lock.
     #[inline]
     pub(crate) fn put(&self, value: T, who: u64) -> Result<(), Refused<T>> {
-        let mut lane = lock(&self.lane);
+        let mut lane = lock(&self.lane.0);
         // (`Relaxed` suffices here and below: the word is stored under this lock alone)
         let (put, plain) = (self.put.0.load(Relaxed), lane.plain);
         match &mut lane.writer {
@@ -247,14 +248,14 @@ impl<T> Chain<T> {
     }
 
     pub(crate) fn close(&self, to: State) -> bool {
-        let mut lane = lock(&self.lane);
+        let mut lane = lock(&self.lane.0);
         lane.plain = 0;
         self.status.advance(to)
     }
 
     pub(crate) fn end(&self) {
         let (full, written) = {
-            let mut lane = lock(&self.lane);
+            let mut lane = lock(&self.lane.0);
             (lane.full.take(), lane.writer.take().map(Writer::end))
         };
         let head = lock(&self.head).take();
