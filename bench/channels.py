@@ -3,8 +3,9 @@
 
 usage: bench/channels.py [--rounds 11] [--values 500000] [--counts]
 
-Nanoseconds are medians of interleaved rounds, without making. A x B is A threads that send and B that receive. With 4 x 16 there
-is also the 99th percentile of the time that a value was on its way. A row says how many times those of crossbeam-channel they are.
+Nanoseconds are medians of interleaved rounds, without the making of a channel. A x B is A threads that send and B that
+receive. With 4 x 16 there is also the 99th percentile of the time from send to receive. A row divides our figures by those
+of crossbeam-channel.
 Instructions are callgrind's, of a send and a receive, in one thread. With --counts there are no nanoseconds. On four idle
 processors it takes two minutes. It wants cargo, valgrind, and crossbeam-channel and flume of Debian.
 """
@@ -46,9 +47,9 @@ def main():
                     return took / options.values
                 runs[what, form, threads] = run
     took = measuring.medians(options.rounds, runs)
-    head = ["A value", "instructions: one at a time", "many that wait"]
-    head += [] if options.counts else ["ns: " * (it == THREADS[0]) + f"{it[0]} x {it[1]}" for it in THREADS] + ["4 x 16, 99 in 100, µs"]
-    rows = []
+    head, rows = ["A value", "instructions: one at a time", "all sent first"], []
+    if not options.counts:
+        head += [f"ns: {senders} x {receivers}" for senders, receivers in THREADS] + ["µs: 99th percentile of 4 x 16"]
     for form in ("u64", "box"):
         for what, name in CHANNELS.items():
             row = [f"{name}, {form}", *counts(what, form)]
@@ -56,8 +57,9 @@ def main():
                 row += [took[what, form, it] for it in THREADS]
                 row.append(sorted(late[what, form, THREADS[-1]])[options.rounds // 2] / 1000)
             rows.append(row)
-        ours, beside = (next(it[1:] for it in rows if it[0] == f"{CHANNELS[what]}, {form}") for what in ("hazbultra", "crossbeam"))
-        rows.append([f"times crossbeam's, {form}", *(f"{one / two:.2f}" for one, two in zip(ours, beside))])
+        figures = {row[0]: row[1:] for row in rows}
+        ours, theirs = (figures[f"{CHANNELS[what]}, {form}"] for what in ("hazbultra", "crossbeam"))
+        rows.append([f"ours by crossbeam's, {form}", *(f"{one / two:.2f}" for one, two in zip(ours, theirs))])
     print(measuring.table(head, rows))
 
 

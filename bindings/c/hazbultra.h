@@ -3,8 +3,8 @@
  * waits for anything but the allocator.
  *
  * Link libhazbultra.a and heap.c, which has its allocation functions: gcc -pthread your.c heap.c libhazbultra.a
- * The library that `make install` installs has heap.c in it. Both are for Linux, with glibc or musl: on a 64-bit ARM
- * processor, little-endian, or on an x86-64 processor of level x86-64-v2. A C++ program may take hazbultra.hpp.
+ * The library that `make install` installs has heap.c in it. Both are for Linux with glibc or musl, on x86-64 of level
+ * x86-64-v2 or on little-endian 64-bit ARM. A C++ program may take hazbultra.hpp.
  *
  * WHAT A CALLER OWES. Nothing checks a C caller. What is proved holds only if the caller keeps these six rules:
  *
@@ -13,8 +13,7 @@
  *  2. No pointer is null: not that of hz_free, and not items or notes if room is 0. Each leads to an object of its type,
  *     or to as many objects as the length beside it says. A handle, a setup and a seed are initialised. What a call is to
  *     write need not be initialised: no call reads what a pointer lane, number, value, missing, lanes, consumers, out,
- *     items, notes or copied leads to. A bool is 0 or 1.
- *     Two pointers of one call lead to different objects.
+ *     items, notes or copied leads to. A bool is 0 or 1. Two pointers of one call lead to different objects.
  *  3. A handle is in one call at a time. Between two calls it may go to another thread, if the first call happens before
  *     the second: a lock, the start or the join of a thread, an atomic, or something else has to order them. Different
  *     handles of one mailbox may be in calls at the same time: that is what a mailbox is for.

@@ -2,7 +2,7 @@
  * be moved and cannot be copied, and its destructor frees what it owns. So rules 1 and 4 are kept, and of rule 2 all but that a
  * setup is initialised. The others are yours: above all, that a value is in one call at a time (rule 3).
  *
- * A call of a value that was moved from returns HZ_BAD_HANDLE, or throws it.
+ * After a value was moved from, its calls return HZ_BAD_HANDLE, or throw it.
  */
 #ifndef HAZBULTRA_HPP
 #define HAZBULTRA_HPP
@@ -58,9 +58,9 @@ class owner {
 class producer : public owner {
   public:
     uint64_t lane() const noexcept { return number; }
-    /* HZ_LINKED, HZ_FULL or HZ_CLOSED. */
+    /* Returns HZ_LINKED, HZ_FULL or HZ_CLOSED. */
     [[nodiscard]] hz_code put(uint64_t item) noexcept { return hz_code(hz_put(&handle, item)); }
-    /* HZ_DONE or HZ_CLOSED. */
+    /* Returns HZ_DONE or HZ_CLOSED. */
     hz_code finish() noexcept { return hz_code(hz_finish(&handle)); }
 
   private:
@@ -69,7 +69,7 @@ class producer : public owner {
     uint64_t number = 0;
 };
 
-/* A consumer. It has to be taken back, too. */
+/* A consumer. Give it back to its hub, too. */
 class consumer : public owner {
   public:
     uint64_t index() const noexcept { return number; }
@@ -145,11 +145,11 @@ class hub : public owner {
         expect_done(hz_consumer_new(&handle, seed.data(), &made.handle, &made.number));
         return made;
     }
-    /* If it throws, HZ_OTHER_MAILBOX or HZ_BAD_HANDLE, the producer or consumer is as it was. */
+    /* Both throw HZ_OTHER_MAILBOX or HZ_BAD_HANDLE. Then the producer or consumer is as it was. */
     void take_back(producer &&one) { expect_done(hz_take_back(&handle, &one.handle)); }
     void take_back(consumer &&one) { expect_done(hz_take_back(&handle, &one.handle)); }
 
-    /* Ends the mailbox. If it throws, the hub is as it was: HZ_MISSING or HZ_NO_MEMORY. */
+    /* Ends the mailbox. It throws HZ_MISSING or HZ_NO_MEMORY. Then the hub is as it was. */
     report gather() {
         report made;
         hz_missing missing = {};

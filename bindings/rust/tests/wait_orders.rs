@@ -1,4 +1,5 @@
-//! Runs the source of the channel's wait list in each order of its steps, and finds that no wake-up is lost.
+//! Runs the source of the channel's wait list in each order of its steps, up to a number of preemptions. It finds that no
+//! wake-up is lost.
 //!
 //! Each sender sends one value, and each receiver takes one. A receiver waits as a thread or as a task. Some may give
 //! up, or be dropped, at any time, also after they were woken. In no order is a value left while a receiver sleeps for

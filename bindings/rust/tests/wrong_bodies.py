@@ -95,7 +95,10 @@ def caught(words, room, left):
 
 
 def tried(body, rooms):
-    """Tries a change in a copy of the crate that is free. Returns None if the test did as it has to, else what is wrong."""
+    """Makes one change in a copy of the crate, and runs the test for it. Returns None if that test fails, else what is wrong.
+
+    If `what` is empty, nothing is changed, and the test has to pass.
+    """
     what, name, right, wrong, words = body
     room = rooms.get()
     path = f"{room}/src/channel/{name}.rs"
@@ -107,7 +110,7 @@ def tried(body, rooms):
         built = words.replace("test -q", "test -q --no-run", 1)
         if text.count(right) != 1 or caught(" ".join(built.split()[:5]), room, 300):
             return "BAD EDIT"
-        # (these two tests take long, and end by themselves)
+        # (these two tests take long, but always end)
         left = 300 if words in (SEARCH, DROPS) else 20
         return None if caught(words, room, left) == bool(what) else "NOT CAUGHT" if what else "FAILED"
     finally:

@@ -1,4 +1,4 @@
-//! A [`Stream`] of the values of a [`Receiver`]. It is a crate of its own, since `hazbultra` has no dependency.
+//! A [`Stream`] of the values of a [`Receiver`]. This is a crate of its own, since `hazbultra` depends on no other crate.
 //!
 //! ```
 //! use futures_core::Stream;

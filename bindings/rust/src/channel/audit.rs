@@ -6,7 +6,7 @@ use std::collections::{BTreeMap, VecDeque};
 use std::fmt;
 use std::sync::{Arc, Mutex};
 
-/// At most so many accounts wait for somebody to ask for them, the newest ones. Older ones go.
+/// So many accounts that nobody asked for are kept at most, the newest ones.
 const KEPT: usize = 16;
 
 /// Stands in place of a sender's number if a job gave the value back.
@@ -62,8 +62,8 @@ pub struct Totals {
 /// The accounts of a channel. [`Builder::audited`](super::Builder::audited) makes it.
 ///
 /// An account is made when a segment is over and no end stands in it any more, or when the last receiver is dropped.
-/// They come in the order of their values. The newest 16 accounts wait. Older ones that
-/// nobody asked for go, and are in the [totals](Audit::totals) alone. Each call takes the lock of the accounts.
+/// They come in the order of their values. Of those that nobody asked for the newest 16 are kept, and older ones are in
+/// the [totals](Audit::totals) alone. Each call takes the lock of the accounts.
 pub struct Audit<T> {
     ledger: Arc<Ledger<T>>,
 }

@@ -15,8 +15,8 @@ macro_rules! ends {
                 self.number
             }
 
-            /// How many values wait, at one moment of this call. A value whose receive is under way may count. With bound 0
-            /// only those count that jobs gave back, or that were left for a future that was dropped.
+            /// How many values wait, at one moment of this call. A value that is just being received may count. With bound
+            /// 0 only those count that jobs gave back, or that were left for a future that was dropped.
             ///
             /// ```
             /// let (sender, receiver) = hazbultra::channel::unbounded();

@@ -1,29 +1,29 @@
 //! The errors of a channel, with the names that `crossbeam-channel` has for its own.
 use std::error::Error;
 
-/// The value was not sent: all receivers are gone, or there is no memory for a segment. The field is the value.
+/// The channel is closed, all receivers are gone, or there is no memory for a segment. The field is the value not sent.
 #[derive(Clone, Copy, PartialEq, Eq)]
 pub struct SendError<T>(pub T);
 
 /// Why a value was not sent at once. The value is in the error.
 #[derive(Clone, Copy, PartialEq, Eq)]
 pub enum TrySendError<T> {
-    /// The channel has as many values as its bound allows, or there is no memory for a segment.
+    /// There is no room, with bound 0 no receiver waits, or there is no memory for a segment.
     Full(T),
-    /// All receivers are gone.
+    /// The channel is closed, or all receivers are gone.
     Disconnected(T),
 }
 
 /// Why a value was not sent in time. The value is in the error.
 #[derive(Clone, Copy, PartialEq, Eq)]
 pub enum SendTimeoutError<T> {
-    /// The channel was full until then, or there is no memory for a segment.
+    /// There was no room until then, with bound 0 no receiver, or there is no memory for a segment.
     Timeout(T),
-    /// All receivers are gone.
+    /// The channel is closed, or all receivers are gone.
     Disconnected(T),
 }
 
-/// Nothing is left, and nothing comes: all senders are gone, and no [`Job`](super::Job) is open.
+/// Nothing is left, and nothing comes: the channel is closed or all senders are gone, and no [`Job`](super::Job) is open.
 #[derive(Clone, Copy, PartialEq, Eq, Debug)]
 pub struct RecvError;
 

@@ -127,7 +127,7 @@ impl<'a, T> Waiting<'a, T> {
         let result = match list.poll(&mut self.place, waker, look) {
             Poll::Pending | Poll::Ready(Look::Nothing) => return Poll::Pending,
             Poll::Ready(Look::NoMemory) => {
-                // (it gets no memory for a value that is there, so it wakes another receiver, and is polled again)
+                // (a value is there, but no memory to take it: so another receiver shall try, and this one again)
                 shared.empty.wake_one();
                 waker.wake_by_ref();
                 return Poll::Pending;
@@ -164,7 +164,7 @@ impl<'a, T> RecvFuture<'a, T> {
         RecvFuture(Waiting::new(receiver))
     }
 
-    /// After it was ready, makes it a future of the next value. Else it does nothing.
+    /// If it was ready, makes it wait for the next value. Else it does nothing.
     pub fn restart(&mut self) {
         if self.0.stage == Stage::Ready {
             self.0.stage = Stage::New;

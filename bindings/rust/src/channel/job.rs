@@ -11,8 +11,8 @@ use std::sync::Arc;
 /// While a job is open the channel does not end: receivers sleep, since the value may come back. So a thread that holds a
 /// job, and waits on the same channel for its end, waits for ever.
 ///
-/// The value comes back as the last one, also if the channel is full. If there is no
-/// memory for a segment, or no receiver is left, it is dropped.
+/// The value comes back as the last one, also if the channel is full. If there is no memory for a segment, or no receiver
+/// is left, it is dropped.
 ///
 /// `catch_unwind` asks that what its closure borrows is `UnwindSafe`, since a panic may leave it half changed. Boxed closures
 /// and values with cells are not. For these wrap the closure in [`AssertUnwindSafe`](std::panic::AssertUnwindSafe). What the

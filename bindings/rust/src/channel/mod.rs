@@ -1,7 +1,7 @@
-//! A channel that has no end, and whose receivers sleep until something comes.
+//! A channel that takes any number of values, and whose receivers sleep until one comes.
 //!
-//! Each value goes to at most one receiver, by the proved claims of the mailbox. Its calls have the names and habits of
-//! `crossbeam-channel`.
+//! Each value goes to at most one receiver, by the proved claims of the mailbox. Its calls are named as in
+//! `crossbeam-channel`, and do the same.
 //!
 //! ```
 //! use hazbultra::channel;
@@ -20,16 +20,15 @@
 //!
 //! # What is promised
 //!
-//! - At most one receiver gets a value, and none is lost while ends are there for it. When all senders are dropped,
-//!   or an end closes the channel, receivers get what is left, and then an error. When all receivers are dropped, what is left is dropped, and senders
-//!   get their values back.
+//! - At most one receiver gets a value, and none is lost while there is a receiver. (Without memory that of a [`Job`] may
+//!   be.) When all senders are dropped, or the channel is closed, receivers get what is left, and then an error. When all
+//!   receivers are dropped, what is left is dropped, and senders get their values back.
 //! - **One order.** If one send returns before another one begins, in any threads, its value is received first.
 //! - A receiver finds nothing only if there was a moment, during its call, at which nothing was left. A sender finds no
 //!   room only if there was a moment, during its call, at which as many values waited as the bound allows.
 //! - No value waits while a receiver sleeps. A wake-up that its receiver does not use goes to the next one: after a
 //!   timeout, a dropped future, or a waker that panics.
-//! - Memory is in proportion to the values that wait. A receiver that does nothing holds at most one segment, but for
-//!   moments.
+//! - Memory is in proportion to the values that wait. A receiver that does nothing keeps at most one segment for long.
 //! - What takes a lock is said at [`Sender`] and [`Receiver`].
 //!
 //! # How it is built
@@ -99,7 +98,7 @@ pub fn bounded<T>(bound: usize) -> (Sender<T>, Receiver<T>) {
     Builder::new().bound(bound).build()
 }
 
-/// How a channel is to be.
+/// Makes a channel with more settings.
 ///
 /// ```
 /// use hazbultra::channel::Builder;
@@ -134,8 +133,8 @@ impl Builder {
         }
     }
 
-    /// So many values go into each segment, 1 to 2^24. If it is not said, the first gets 32, and later ones up to 4,096. Large
-    /// values get smaller segments.
+    /// So many values go into each segment, 1 to 2^24. By default 32 go into the first, and up to 4,096 into later ones.
+    /// Large values get smaller segments.
     ///
     /// # Panics
     /// The number is out of range.
@@ -154,8 +153,8 @@ impl Builder {
         self.make(None)
     }
 
-    /// Makes the channel, and what hands out its accounts. It costs some 24 bytes more for each value of a segment. With
-    /// bound 0 there are no segments, and so no accounts, but [totals](Audit::totals).
+    /// Makes the channel with its audit, which takes some 24 bytes more for each value of a segment. With bound 0 there
+    /// are no segments, and so no accounts, but [totals](Audit::totals).
     #[must_use]
     pub fn audited<T>(self) -> (Sender<T>, Receiver<T>, Audit<T>) {
         let (audit, ledger) = Audit::new();

@@ -14,13 +14,13 @@ use std::time::{Duration, Instant};
 
 /// Receives values. A clone of it is another receiver, and each value goes to at most one receiver.
 ///
-/// **Locks of a receive.** Each of the first 64 receivers has a seat of its own. A receive holds the lock of its seat. So it
-/// waits only for another thread that shares this receiver by `&`, for one of the receivers beyond 64, which share seats, or
-/// for the few steps in which somebody moves its seat on, or looks for room. Nobody waits for the seat of another. A receive
-/// that comes to a new segment takes the lock under which the channel keeps the first one, that under which the mailbox issues
-/// consumers, and with an audit those of the segment's log and of the accounts. The first one to leave a segment takes the
-/// lock of the list of seats, and tries that of each. A receive that sleeps, or makes room for a sender that does, takes the
-/// lock of the list of sleepers. In a channel of bound 0 each call takes the one lock of that channel.
+/// **Locks of a receive.** Each of the first 64 receivers has a seat of its own, and further ones share these. A receive
+/// holds the lock of its seat, and waits for no other seat. So it waits only for threads that use the same receiver or
+/// seat, and for the few steps in which somebody moves the seat on or looks for room. A receive that comes to a new
+/// segment takes the lock under which the channel keeps the first one, and that under which the mailbox issues consumers.
+/// With an audit it also takes those of the segment's log and of the accounts. The first receive to leave a segment takes
+/// the lock of the list of seats, and tries that of each. A receive that sleeps, or makes room for a sender that does,
+/// takes the lock of the list of sleepers. With bound 0 each call takes the channel's one lock.
 ///
 /// A clone takes the lock of the list of seats. The drop of the last receiver takes those of the lane and of all seats, one
 /// after the other.
@@ -39,7 +39,7 @@ impl<T> Receiver<T> {
         Receiver::sit(shared, number)
     }
 
-    /// A further one, if there is one.
+    /// A further receiver, if any is there.
     fn join(shared: Arc<Shared<T>>) -> Option<Receiver<T>> {
         let number = shared.receivers.add_to_others()?;
         Some(Receiver::sit(shared, number))
@@ -294,7 +294,7 @@ impl<T> Receiver<T> {
                     return Err(RecvTimeoutError::Disconnected);
                 }
                 Some(Look::NoMemory) => {
-                    // (it gets no memory for a value that is there, so it wakes another receiver)
+                    // (a value is there, but no memory to take it: so another receiver shall try)
                     shared.empty.wake_one();
                     thread::sleep(PAUSE);
                 }
@@ -329,8 +329,8 @@ impl<T> Receiver<T> {
         TryIter { receiver: self }
     }
 
-    /// Iterates over values as [`try_iter`](Receiver::try_iter) does, but over no more than wait now. So it ends, also if
-    /// senders go on. A value that it does not come to stays.
+    /// Iterates as [`try_iter`](Receiver::try_iter) does, but over no more values than wait now. So it ends, also if
+    /// senders go on. If the iterator is dropped, values that it has not yielded stay.
     ///
     /// ```
     /// let (sender, receiver) = hazbultra::channel::unbounded();

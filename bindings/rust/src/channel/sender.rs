@@ -16,8 +16,8 @@ use std::time::{Duration, Instant};
 /// **Locks of a send.** A send holds the lock of the channel's lane for one put. So it waits for other senders, and for a job
 /// that comes back. A send that begins a segment takes memory under that lock, and the first one takes the lock under which
 /// receivers find the first segment. A send that finds no room takes the lock of each receiver's seat under it, one after
-/// the other. If a receiver sleeps, or this sender has to, the send takes the lock of the list of sleepers. In a channel of
-/// bound 0 each call takes the one lock of that channel, also those that say that they take none.
+/// the other. If a receiver sleeps, or this sender has to, the send takes the lock of the list of sleepers. With bound 0
+/// each call takes the channel's one lock.
 pub struct Sender<T> {
     pub(super) shared: Arc<Shared<T>>,
     pub(super) number: u64,
@@ -29,7 +29,7 @@ impl<T> Sender<T> {
         Sender { shared, number }
     }
 
-    /// A further one, if there is one.
+    /// A further sender, if any is there.
     fn join(shared: Arc<Shared<T>>) -> Option<Sender<T>> {
         let number = shared.senders.add_to_others()?;
         Some(Sender { shared, number })

@@ -37,8 +37,8 @@ struct Lane<T> {
     plain: u64,
 }
 
-/// A seat, from which a receiver takes: it has a place in one segment, with a consumer of its own. (It is on lines of memory
-/// of its own, as a [`Line`].)
+/// A seat, from which a receiver takes: it has a place in one segment, with a consumer of its own. (It has its own lines
+/// of memory, as a [`Line`].)
 #[repr(align(128))]
 pub(crate) struct Seat<T>(Mutex<Place<T>>);
 

@@ -2,7 +2,8 @@
 //!
 //! A sender that finds a receiver waiting *leaves* the value for it, and nobody else gets that. Else it *offers* the value,
 //! waits until a receiver takes it, and takes it back if it gives up. A receiver that waits gives up only if nothing is left
-//! for it. A future may go all the same: then the next receiver gets what was left for it, and so what a job gives back.
+//! for it. A future may be dropped all the same: then the next receiver gets what was left for it. It also gets what a job
+//! gives back.
 use super::{Look, Refused, State, Status};
 use crate::channel::audit::{Ledger, GIVEN_BACK};
 use crate::channel::system::{lock, Panics, Waiters};

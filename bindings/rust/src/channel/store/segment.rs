@@ -30,7 +30,7 @@ pub(super) struct Writer<T> {
 
 /// Where a seat stands on a chain.
 pub(super) struct Place<T> {
-    /// It is made as late as at the first look, and returns when the segment is over.
+    /// It is made at the first look, and returned when the segment is over.
     emptier: Option<Emptier<T>>,
     /// It is `None` before the first value.
     segment: Option<Arc<Segment<T>>>,
