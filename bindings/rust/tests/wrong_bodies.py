@@ -34,7 +34,7 @@ BODIES = [
     ("the count is stored after the lock", "wait", "        self.list.hold(|list| {\n            let result = work(&mut list.sleepers);\n            self.asleep.store(list.sleepers.len());\n            result\n        })", "        let (result, count) = self.list.hold(|list| (work(&mut list.sleepers), list.sleepers.len()));\n        self.asleep.store(count);\n        result", SEARCH),
     ("the end wakes one sleeper", "wait", "in self.change(mem::take).into_values() {", "in self.change(mem::take).into_values().take(1) {", SEARCH),
     ("a waker is dropped under the lock", "wait", "            let found = list.sleepers.get_mut(&number);\n", "            let mut waker = waker;\n            let found = list.sleepers.get_mut(&number);\n", FAULTS + "a_waker_may"),
-    ("what the panic of a waker says is dropped", "wait", "woken.map_err(mem::forget).is_ok()", "woken.is_ok()", FAULTS + "what_the_panic"),
+    ("what the panic of a waker says is dropped", "wait", "woken.map_err(drop_said).is_ok()", "woken.is_ok()", FAULTS + "what_the_panic"),
     ("the list is searched", "wait", "self.change(|sleepers| sleepers.remove(&number));", "self.change(|sleepers| {\n            let found = sleepers.keys().copied().find(|it| *it == number);\n            found.and_then(|it| sleepers.remove(&it))\n        });", FAULTS + "many_may"),
     ("a future that is dropped stays in the list", "future", "            shared.empty.leave(place);", "            let _ = place;", TEST + "a_future_that_is_dropped"),
     ("a future without memory keeps its wake-up", "future", "                shared.empty.wake_one();\n", "", FAULTS + "a_future_without"),

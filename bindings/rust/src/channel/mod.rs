@@ -23,7 +23,8 @@
 //! - At most one receiver gets a value, and none is lost while there is a receiver. (Without memory that of a [`Job`] may
 //!   be.) When all senders are dropped, or the channel is closed, receivers get what is left, and then an error. When all
 //!   receivers are dropped, what is left is dropped, and senders get their values back.
-//! - **One order.** If one send returns before another one begins, in any threads, its value is received first.
+//! - **One order.** If one send returns before another one begins, in any threads, its value is received first. ([`bounded`]
+//!   names one exception, with the bound 0.)
 //! - A receiver finds nothing only if there was a moment, during its call, at which nothing was left. A sender finds no
 //!   room only if there was a moment, during its call, at which as many values waited as the bound allows.
 //! - No value waits while a receiver sleeps. A wake-up that its receiver does not use goes to the next one: after a
@@ -81,7 +82,8 @@ pub fn unbounded<T>() -> (Sender<T>, Receiver<T>) {
 
 /// A channel in which at most so many values wait. A send waits for room.
 ///
-/// If the bound is 0, both sides meet: a send returns when a receiver waits for the value or takes it.
+/// If the bound is 0, both sides meet: a send returns when a receiver waits for the value or takes it. A value may be left for
+/// a future that waits. If that is dropped, the next receiver gets the value, perhaps after later ones.
 ///
 /// ```
 /// use hazbultra::channel::bounded;

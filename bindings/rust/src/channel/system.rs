@@ -1,12 +1,12 @@
 //! The wait list's system in the crate: the standard library.
-use super::wait::{Lock, System, WaitList, Word};
+use super::wait::{drop_said, Lock, System, WaitList, Word};
 use std::any::Any;
+use std::hint;
 use std::panic::{catch_unwind, resume_unwind, AssertUnwindSafe};
 use std::sync::atomic::{AtomicUsize, Ordering::SeqCst};
 use std::sync::{Mutex, MutexGuard, PoisonError};
 use std::thread::{self, Thread};
 use std::time::Instant;
-use std::{hint, mem};
 
 pub(super) type Waiters = WaitList<Std>;
 
@@ -89,7 +89,7 @@ pub(super) struct Panics(Option<Box<dyn Any + Send>>);
 impl Panics {
     pub(super) fn contain(&mut self, work: impl FnOnce()) {
         if let Err(why) = catch_unwind(AssertUnwindSafe(work)) {
-            mem::forget(self.0.replace(why)); // (the drop of what an earlier one said may panic, too)
+            self.0.replace(why).into_iter().for_each(drop_said);
         }
     }
 
@@ -101,7 +101,7 @@ impl Panics {
     pub(super) fn resume(self) {
         match self.0 {
             Some(why) if !thread::panicking() => resume_unwind(why),
-            why => mem::forget(why),
+            why => why.into_iter().for_each(drop_said),
         }
     }
 }
