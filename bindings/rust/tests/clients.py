@@ -25,7 +25,7 @@ TIME = 600  # (seconds, after which a client's tests are taken to sleep for ever
 THREADS = "32"  # (many tests only sleep)
 MAIN = '[package]\nname = "{name}"\nversion = "{version}"\nedition = "2021"\n[dependencies]\n'
 # What the tests of clients need besides, in Debian's packages.
-NEEDED = ["librust-rand-xorshift-dev", "librust-scoped-tls-dev", "librust-serde-json-dev", "librust-tempfile-dev"]
+NEEDED = ["librust-rand-dev", "librust-rand-xorshift-dev", "librust-scoped-tls-dev", "librust-serde-json-dev", "librust-tempfile-dev"]
 # (threadpool uses the channel of std)
 POOL = [
     ("src/lib.rs", r"std::sync::mpsc::\{channel, Receiver", "crossbeam_channel::{unbounded as channel, Receiver"),
