@@ -1,5 +1,7 @@
 """What the tests of the fleet start: servers, processes and fills. All of them end with the tests."""
+import itertools
 import json
+import os
 import signal
 import socket
 import subprocess
@@ -29,16 +31,22 @@ def end(process, number=signal.SIGTERM, status=0):
     return said
 
 
-def free_port():
-    with socket.create_server(("127.0.0.1", 0)) as it:
-        return it.getsockname()[1]
+ports = itertools.count(10000 + os.getpid() % 200 * 100)  # (below those of connections, which would take one meanwhile)
+
+
+def is_free(port):
+    try:
+        socket.create_server(("127.0.0.1", port)).close()
+    except OSError:
+        return False
+    return True
 
 
 class Server:
     """A server with a port and a folder of its own. `more` are lines of its configuration."""
 
     def __init__(self, name, more="", jets="", port=0):
-        self.name, self.port = name, port or free_port()
+        self.name, self.port = name, port or next(filter(is_free, ports))
         self.url = f"nats://127.0.0.1:{self.port}"
         store = f'jetstream {{ store_dir: "{name}.store", {jets} }}' if jets is not None else ""
         with open(f"{name}.conf", "w", encoding="ascii") as file:
@@ -50,10 +58,11 @@ class Server:
         wait(self.is_ready, 30)
 
     def is_ready(self):
-        assert self.process.poll() is None, f"the server {self.name} does not start"
         with open(f"{self.name}.log", "a+", encoding="utf-8") as file:
             file.seek(0)
-            return any(f"[{self.process.pid}]" in it and "Server is ready" in it for it in file)
+            lines = [it for it in file if f"[{self.process.pid}]" in it]
+        assert self.process.poll() is None, f"the server {self.name} does not start: {lines[-1:]}"
+        return any("Server is ready" in it for it in lines)
 
     def kill(self, number=signal.SIGKILL):
         self.process.send_signal(number)

@@ -5,11 +5,10 @@ import os
 import re
 import shutil
 import signal
-import socket
 import subprocess
 import time
 
-from harness import HELD, Server, end, expect_each, fill, fleet, rows, table, value, wait
+from harness import HELD, Server, end, expect_each, fill, fleet, is_free, rows, table, value, wait
 
 HERE = os.path.dirname(os.path.abspath(__file__))
 
@@ -24,24 +23,28 @@ def dead_letters(server, stream):
 
 
 def limit_of_tries():
-    """Of 1,000 jobs 20 always fail, and two abort the process. The others are done, and the 22 dead letters say why."""
+    """Of 1,000 jobs 20 always fail, and two abort the process. The others are done, and the 22 dead letters say why. No job
+    ends more processes than it has tries, by the line that each of these wrote about it."""
     server = Server("tries")
     failing, aborting = [f"fail {it}" for it in range(1, 21)], ["abort 21", "abort 22"]
     jobs = [*range(100, 100 + 978)]
     for at, job in enumerate([*failing, *aborting]):
         jobs.insert(40 + 43 * at, job)
     fill(server, "TRIES", jobs)
-    more, deaths, said = ("--max-tries", 3, "--backoff", 200), 0, []
-    processes = [fleet(server, "TRIES", *more, ack=1) for _ in range(3)]
+    more, processes, deaths = ("--max-tries", 3, "--backoff", 200), [], collections.Counter()
     while server.left("TRIES") > 0:
-        for at, process in enumerate(processes):
-            if process.poll() is not None:
-                said.append(end(process, 0, -6))
-                processes[at], deaths = fleet(server, "TRIES", *more, ack=1), deaths + 1
+        running = sum(it.poll() is None for it in processes)
+        processes += [fleet(server, "TRIES", *more, ack=1) for _ in range(3 - running)]
         time.sleep(0.05)
-    said += [end(it) for it in processes]
+    for it in processes:
+        it.terminate()
+    said = ["".join(it.communicate(timeout=60)) for it in processes]
+    for process, text in zip(processes, said):
+        aborts = re.findall(r"job (\d+) aborts the process", text)
+        assert (process.returncode, len(aborts)) in ((0, 0), (-6, 1)), f"{process.returncode}: {text}"
+        deaths.update(aborts)
     expect_each("TRIES", range(100, 1078))
-    assert 2 < deaths <= 2 * 3, f"{deaths} processes died of two jobs"
+    assert {*deaths} == {"21", "22"} and max(deaths.values()) <= 3, f"processes ended by each job: {deaths}"
     letters = dict(dead_letters(server, "TRIES"))
     assert set(letters) == {*failing, *aborting} and server.left("TRIES-dead") == 22, letters
     for job, headers in letters.items():
@@ -154,14 +157,6 @@ def addresses_and_tls():
     for more, line in cases:
         said = end(fleet(server, "TLS", *more), 0, 1)
         assert line in said and said.count("\n") == 1, f"{more}: {said}"
-
-
-def is_free(port):
-    try:
-        socket.create_server(("127.0.0.1", port)).close()
-    except OSError:
-        return False
-    return True
 
 
 def fresh_user(words, **more):

@@ -40,8 +40,11 @@ enum outcome run(struct work *work) {
         snprintf(work->why, MOST_WHY, "a job is no number");
         return BAD;
     }
-    if (is_aborting)
+    if (is_aborting) {
+        flockfile(stderr); /* (for good: a second such job does not say that it ended this process) */
+        say("job %" PRIu64 " aborts the process", number);
         abort();
+    }
     if (rest > 0)
         nats_Sleep((int64_t)rest);
     /* One call writes the row, so that no two rows mix. */
