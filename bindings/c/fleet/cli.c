@@ -172,3 +172,24 @@ void make_stream(jsCtx *jets, jsStreamConfig *config, const jsStreamConfig *of_j
         quit(1, "the stream %s is not made: %s", config->Name, why(status));
     jsStreamInfo_Destroy(info);
 }
+
+void check_keeps(const jsStreamConfig *config) {
+    if (config->Discard == js_DiscardOld && (config->MaxMsgs > 0 || config->MaxBytes > 0))
+        quit(1, "the stream %s drops old jobs when it is full: set its discard policy to new", stream);
+    if (config->MaxMsgsPerSubject > 0 && !config->DiscardNewPerSubject)
+        quit(1, "the stream %s drops old jobs of a subject: it may have no limit of messages per subject", stream);
+}
+
+bool has_room(jsCtx *jets, const jsStreamConfig *config, uint64_t size, bool may_ask) {
+    static uint64_t used = UINT64_MAX / 2; /* at most, if nobody else fills the stream */
+    if (config->MaxBytes <= 0)
+        return true;
+    if (used + size > (uint64_t)config->MaxBytes && may_ask) {
+        jsStreamInfo *info = NULL;
+        used = js_GetStreamInfo(&info, jets, stream, NULL, NULL) == NATS_OK ? info->State.Bytes : used;
+        jsStreamInfo_Destroy(info);
+    }
+    bool is_room = used + size <= (uint64_t)config->MaxBytes;
+    used += is_room ? size : 0;
+    return is_room;
+}

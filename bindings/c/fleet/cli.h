@@ -1,4 +1,4 @@
-/* What fleet and fill have in common: their options, and how they reach the server. */
+/* What fleet, fill and dead have in common: their options, and how they reach the server. */
 #ifndef CLI_H
 #define CLI_H
 
@@ -10,6 +10,9 @@
 #include <stdlib.h>
 
 enum { SECOND = 1000, MILLISECOND = 1000000 }; /* the first in milliseconds, the second in nanoseconds */
+
+/* The headers of a dead letter have at most so many bytes, if `fill` or `dead` gave the job its id (tries.c). */
+enum { MOST_HEADERS = 1024 };
 
 /* An option has either a text or a number. The name of the last in a table is NULL. */
 struct option {
@@ -39,6 +42,14 @@ jsStreamInfo *reach_server(natsConnection **connection, jsCtx **jets, natsOption
 
 /* Makes a stream beside that of the jobs, on this subject, if there is none of its name. At a fault it exits. */
 void make_stream(jsCtx *jets, jsStreamConfig *config, const jsStreamConfig *of_jobs, const char *subject);
+
+/* Exits if the stream of jobs drops old ones to make room for new ones. */
+void check_keeps(const jsStreamConfig *config);
+
+/* Whether a stream with a limit of bytes has room for so many more, as far as is known. The server is asked only if nothing
+ * is on its way (`may_ask`). To make room for a small message, server 2.9.10 drops an old one even if it is to refuse new
+ * ones. So such a stream is not brought to its limit. */
+bool has_room(jsCtx *jets, const jsStreamConfig *config, uint64_t size, bool may_ask);
 
 /* Returns NATS's own words for the last failure of this thread, or else for the status. */
 const char *why(natsStatus status);

@@ -26,6 +26,7 @@ static struct {
     char text[128];
     uint64_t count;
 } reasons[REASONS];
+static int64_t most_length; /* of a job, so that it can become a dead letter */
 static bool is_away;
 static volatile sig_atomic_t is_stopped;
 
@@ -86,10 +87,7 @@ static jsStreamInfo *prepare(jsCtx *jets, jsStreamInfo *info) {
     fresh.Storage = js_FileStorage;
     fresh.Discard = js_DiscardNew;
     jsStreamConfig *config = info ? info->Config : &fresh;
-    if (config->Discard == js_DiscardOld && (config->MaxMsgs > 0 || config->MaxBytes > 0))
-        quit(1, "the stream %s drops old jobs when it is full: set its discard policy to new", stream);
-    if (config->MaxMsgsPerSubject > 0 && !config->DiscardNewPerSubject)
-        quit(1, "the stream %s drops old jobs of a subject: it may have no limit of messages per subject", stream);
+    check_keeps(config);
     int64_t wanted = (int64_t)window * SECOND * MILLISECOND;
     if (info && config->Duplicates >= wanted)
         return info;
@@ -134,22 +132,6 @@ static bool note(jsCtx *jets, const jsStreamInfo *info) {
     return is_there;
 }
 
-/* Whether a stream with a limit of bytes has room for so many more. To make room for a small message, server 2.9.10 drops
- * an old one even if it is to refuse new ones. So such a stream is not brought to its limit. */
-static bool has_room(jsCtx *jets, const jsStreamConfig *config, uint64_t size) {
-    static uint64_t used = UINT64_MAX / 2; /* at most, if nobody else fills the stream */
-    if (config->MaxBytes <= 0)
-        return true;
-    if (used + size > (uint64_t)config->MaxBytes && wait_for_answers(0)) {
-        jsStreamInfo *info = NULL;
-        used = js_GetStreamInfo(&info, jets, stream, NULL, NULL) == NATS_OK ? info->State.Bytes : used;
-        jsStreamInfo_Destroy(info);
-    }
-    bool is_room = used + size <= (uint64_t)config->MaxBytes;
-    used += is_room ? size : 0;
-    return is_room;
-}
-
 /* Sends one job. Its id has its line's number, so two equal jobs are two. Returns whether the server is still there. */
 static bool send(jsCtx *jets, const jsStreamInfo *info, const char *job, size_t length) {
     const jsStreamConfig *config = info->Config;
@@ -165,13 +147,17 @@ static bool send(jsCtx *jets, const jsStreamInfo *info, const char *job, size_t 
     jsPubOptions_Init(&options);
     options.MsgId = id;
     options.MaxWait = 60 * SECOND;
-    /* (64: what the server adds) */
-    bool is_room = has_room(jets, config, length + strlen(subject) + (size_t)id_length + 64);
-    natsStatus status = is_room ? js_PublishAsync(jets, subject, job, (int)length, &options) : NATS_OK;
+    size_t size = length + strlen(subject) + (size_t)id_length + 64; /* (64: what the server adds) */
+    char reason[128] = "";
+    if ((int64_t)length > most_length)
+        snprintf(reason, sizeof reason, "longer than %" PRId64 " bytes, they could not become dead letters", most_length);
+    else if (!has_room(jets, config, size, false) && !(wait_for_answers(0) && has_room(jets, config, size, true)))
+        snprintf(reason, sizeof reason, "maximum bytes exceeded");
+    natsStatus status = *reason ? NATS_OK : js_PublishAsync(jets, subject, job, (int)length, &options);
     pthread_mutex_lock(&lock);
     sent++;
-    if (!is_room || status)
-        refuse(status ? why(status) : "maximum bytes exceeded");
+    if (*reason || status)
+        refuse(*reason ? reason : why(status));
     pthread_mutex_unlock(&lock);
     return sent % NOTED == 0 ? note(jets, info) : wait_for_answers(PENDING);
 }
@@ -213,6 +199,7 @@ int main(int count, char **words) {
     if (status)
         quit(1, "%s", why(status));
     jsStreamInfo *info = reach_server(&connection, &jets, to, &patience);
+    most_length = natsConnection_GetMaxPayload(connection) - MOST_HEADERS;
     info = prepare(jets, info);
     read_note(jets, info);
     char *line = NULL;

@@ -110,6 +110,12 @@ def fill(server, stream, lines, *more, status=0, **how):
     return said
 
 
+def dead(server, stream, *more, status=0, before=()):
+    """Runs `dead`. Returns what it printed."""
+    words = (*before, "./dead", "--server", server.url, "--stream", stream, *more)
+    return end(start(*words, stdout=subprocess.PIPE, stderr=subprocess.PIPE), 0, status)
+
+
 def fleet(server, stream, *more, ack=30, before=()):
     words = (*before, "./fleet", "--server", server.url, "--stream", stream, "--ack", ack, "--effects", stream, *more)
     return start(*words, stdout=subprocess.PIPE, stderr=subprocess.PIPE)

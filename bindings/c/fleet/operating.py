@@ -8,15 +8,15 @@ import signal
 import subprocess
 import time
 
-from harness import HELD, Server, end, expect_each, fill, fleet, is_free, rows, table, value, wait
+from harness import HELD, Server, dead, end, expect_each, fill, fleet, is_free, rows, table, value, wait
 
 HERE = os.path.dirname(os.path.abspath(__file__))
 
 
 def dead_letters(server, stream):
     """Of each dead letter its job, and its headers."""
-    last = server.ask(f"STREAM.INFO.{stream}-dead")["state"]["last_seq"]
-    for number in range(1, last + 1):
+    state = server.ask(f"STREAM.INFO.{stream}-dead")["state"]
+    for number in range(state["first_seq"], state["last_seq"] + 1):
         message = server.ask(f"STREAM.MSG.GET.{stream}-dead", seq=number)["message"]
         job, headers = (base64.b64decode(message.get(it, "")).decode() for it in ("data", "hdrs"))
         yield job, dict(it.split(": ", 1) for it in headers.split("\r\n")[1:] if it)
@@ -56,6 +56,60 @@ def limit_of_tries():
     # (a process may abort between the end of a run and the line about it)
     assert set(failures) == {str(it) for it in range(1, 21)} and 58 <= sum(failures.values()) <= 62, failures
     assert server.left("TRIES-tries") == 0, "records stay of jobs that left the stream"
+
+
+def put_back():
+    """`dead` shows each letter, and puts jobs back. They run as others do, and are not stored twice if it breaks off."""
+    server, odd = Server("back"), "a\tb\\\0\n"
+    for letters, more in ("BACK", {}), ("KEPT", {"deny_delete": True}):
+        server.make(f"{letters}-dead", retention="limits", **more)
+        fill(server, letters, [1, 2, odd[:-1]])
+        process = fleet(server, letters, "--max-tries", 2, "--backoff", 100, "--effects", "/dev/full")
+        wait(lambda: server.left(letters) == 0)
+        end(process)
+    shown = {it.split("\t")[4]: it.split("\t") for it in dead(server, "BACK").splitlines()}
+    reason = "failed: No space left on device"
+    assert [shown[it][1:4] for it in "12"] == [[f"one:{it}", "2", f"job {it} {reason}"] for it in "12"], shown
+    assert shown["a\\x09b\\x5c\\x00"][1:4] == ["one:3", "1", "a job is no number"] and len(shown) == 3, shown
+    for _ in range(2):
+        said = dead(server, "KEPT", "--again", 2, status=1)
+        assert "1 jobs went back, and the last one's letter 2 stays" in said and server.left("KEPT") == 1, said
+    server.ask("STREAM.UPDATE.BACK", **{**server.ask("STREAM.INFO.BACK")["config"], "max_msgs": 1})
+    assert "1 jobs went back into" in dead(server, "BACK", "--again", shown["1"][0])
+    said = dead(server, "BACK", "--again", "all", status=1)
+    assert "0 jobs went back, and letter " in said and "maximum messages" in said and said.count("\n") == 1, said
+    server.ask("STREAM.UPDATE.BACK", **{**server.ask("STREAM.INFO.BACK")["config"], "max_msgs": -1})
+    assert "2 jobs went back into" in dead(server, "BACK", "--again", "all") and dead(server, "BACK") == ""
+    process = fleet(server, "BACK", "--max-tries", 2)
+    for round in range(2):
+        wait(lambda: server.left("BACK") == 0)
+        ((job, headers),) = dead_letters(server, "BACK")
+        assert job == odd[:-1] and re.fullmatch(r"again:\d+:\d{19}:one:3", headers["Fleet-Id"]), headers
+        assert "1 jobs went back" in dead(server, "BACK", "--again", "all")
+    end(process)
+    expect_each("BACK", (1, 2))
+    assert all(re.fullmatch(r"again:\d+:\d{19}:one:[12]", it[4]) for it in table("BACK")), table("BACK")
+    for status, line, *words in (2, "--again 0: give the", "BACK", "--again", 0), (1, "letter 99: Not Found", "BACK", "--again", 99):
+        said = dead(server, *words, status=status)
+        assert line in said and said.count("\n") == 1, said
+
+
+def largest():
+    """The largest job that `fill` takes becomes a dead letter, and goes back. One that is a byte larger is refused."""
+    server, stream, most = Server("largest", "max_payload: 5000"), "L" * 240, 5000 - 1024
+    said = fill(server, stream, ["x" * most, "y" * (most + 1)], name="n" * 200, status=1)
+    assert "of 2 jobs 1 went into" in said and server.left(stream) == 1, said
+    assert f"1 jobs are not stored: longer than {most} bytes, they could not become dead letters\n" in said, said
+    process = fleet(server, stream, "--max-tries", 1000)
+    for _ in range(2):
+        wait(lambda: server.left(stream) == 0)
+        ((job, headers),) = dead_letters(server, stream)
+        assert job == "x" * most
+        length = len("NATS/1.0\r\n\r\n") + sum(len(f"{it}: {headers[it]}\r\n") for it in headers)
+        # (what the longest reason, tries, sequences, line, and name of a stream would have more)
+        assert length + 255 - len(headers["Fleet-Reason"]) + 3 + 4 * 19 + 10 <= 1024, length
+        assert "1 jobs went back" in dead(server, stream, "--again", "all")
+    end(process)
 
 
 def alone():
@@ -170,7 +224,7 @@ def fresh_user(words, **more):
 def page():
     """The page's commands, word for word, in a fresh user's shell beside Debian's own server on port 4222."""
     with open(f"{HERE}/README.md", encoding="utf-8") as file:
-        block = re.search(r"as you:\n\n((?: {4}.*\n)+)", file.read()).group(1)
+        first, second = re.findall(r"\n\n((?: {4}.*\n)+)", file.read())
     copy, above = "user/c/fleet", os.path.dirname(HERE)
     shutil.copytree(HERE, copy, ignore=shutil.ignore_patterns("build", "__pycache__"))
     for name in "hazbultra.h", "heap.c":
@@ -180,19 +234,23 @@ def page():
     subprocess.run(["chmod", "-R", "a+rwX", "user"], check=True)
     if is_free(4222):  # (else such a server is there)
         Server("debian", jets=None, port=4222)
-    wait(lambda: is_free(4333))  # (until other tests of this machine have ended)
-    said = fresh_user(["bash", "-m"], input=block, cwd=copy, timeout=300)
-    numbers = [int(it) for it in said.splitlines() if it.isdigit()]
-    jobs = int(re.search(r"seq 1 (\d+)", block).group(1))
+    said = []
+    for block in first, second:
+        wait(lambda: is_free(4333))  # (until other tests of this machine have ended)
+        said.append(fresh_user(["bash", "-m"], input=block, cwd=copy, timeout=300))
+    numbers = [int(it) for it in said[0].splitlines() if it.isdigit()]
+    jobs = int(re.search(r"seq 1 (\d+)", first).group(1))
     assert numbers[0] == jobs and jobs <= numbers[1] <= jobs + 4, said
-    assert said.count(" unsettled 0\n") == 2 and f"of {jobs} jobs {jobs} went into" in said, said
+    assert said[0].count(" unsettled 0\n") == 2 and f"of {jobs} jobs {jobs} went into" in said[0], said
+    assert said[1].count("\t2\tjob ") == said[1].count("No space left on device") == 3 and "\n3\n" in said[1], said
+    assert "3 jobs went back into" in said[1], said
 
 
 def installed():
     """What `make install` installs runs, and systemd takes the unit."""
     prefix = os.path.abspath("a prefix")
     subprocess.run(["make", "-s", "-C", HERE, f"BUILD={os.getcwd()}", f"PREFIX={prefix}", "install"], check=True)
-    for program in "fleet", "fill":
+    for program in "fleet", "fill", "dead":
         words = [f"{prefix}/bin/hazbultra-{program}", "--version"]
         assert "0.1.0" in subprocess.run(words, check=True, capture_output=True, text=True).stdout
     with open(f"{HERE}/hazbultra-fleet@.service", encoding="ascii") as file:
@@ -216,8 +274,8 @@ def memory():
     fill(server, "MEMORY", [*range(100), "fail 100", "banana"], before=valgrind)
     process = fleet(server, "MEMORY", "--max-tries", 2, "--backoff", 100, "--cells", 20, before=valgrind)
     wait(lambda: server.left("MEMORY-dead") == 2 and server.left("MEMORY") == 0)
-    said = end(process)
-    assert value(said, "mailboxes") > 3 and "==" not in said, said
+    said = end(process) + dead(server, "MEMORY", "--again", "all", before=valgrind)
+    assert value(said, "mailboxes") > 3 and "2 jobs went back" in said and "==" not in said, said
 
 
-parts = [limit_of_tries, alone, backoff, metrics, addresses_and_tls, page, installed, memory]
+parts = [limit_of_tries, put_back, largest, alone, backoff, metrics, addresses_and_tls, page, installed, memory]

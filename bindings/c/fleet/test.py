@@ -115,7 +115,7 @@ def refusals():
     for kind, size in (("as", 24), ("as", 64), ("data", 16)):
         said = end(fleet(server, "STOP", before=("prlimit", f"--{kind}={size << 20}")), 0, 1)
         assert said.startswith("fleet: ") and said.count("\n") == 1, f"{size} MB: {said}"
-    for program in "fleet", "fill":
+    for program in "fleet", "fill", "dead":
         for word, line in ("--help", "--server "), ("--version", f"{program} 0.1.0, with libnats 3."):
             said = subprocess.run([f"./{program}", word], check=True, capture_output=True, text=True).stdout
             assert line in said, said
