@@ -261,7 +261,30 @@ static void found(natsConnection *it, void *nothing) {
     acknowledge_again();
 }
 
-/* Makes the consumer of all the fleet, or gives the one that is there this `ack`. */
+/* Returns a setting of a consumer, by NATS' name, with which not each job would come, or not as the fleet needs it. */
+static const char *wrong_setting(const jsConsumerConfig *it) {
+    const struct {
+        const char *name;
+        bool is_wrong;
+    } all[] = {
+        {"ack_policy", it->AckPolicy != js_AckExplicit},
+        {"deliver_policy", it->DeliverPolicy != js_DeliverAll},
+        {"deliver_subject", it->DeliverSubject && *it->DeliverSubject},
+        {"filter_subject", it->FilterSubject && *it->FilterSubject},
+        {"replay_policy", it->ReplayPolicy != js_ReplayInstant},
+        {"max_deliver", it->MaxDeliver > 0},
+        {"headers_only", it->HeadersOnly},
+        {"max_batch", it->MaxRequestBatch > 0},
+        {"max_expires", it->MaxRequestExpires > 0},
+        {"max_bytes", it->MaxRequestMaxBytes > 0},
+    };
+    for (size_t i = 0; i < sizeof all / sizeof *all; i++)
+        if (all[i].is_wrong)
+            return all[i].name;
+    return NULL;
+}
+
+/* Makes the consumer of all the fleet, or gives the one that is there this `ack`. If that is of other use, it exits. */
 static natsStatus prepare_consumer(void) {
     const int64_t time = (int64_t)ack * SECOND * MILLISECOND;
     jsConsumerInfo *info = NULL;
@@ -274,6 +297,9 @@ static natsStatus prepare_consumer(void) {
     natsStatus status = js_GetConsumerInfo(&info, jets, stream, CONSUMER, NULL, NULL);
     if (status == NATS_NOT_FOUND)
         status = js_AddConsumer(&info, jets, stream, &fresh, NULL, NULL);
+    const char *wrong = status ? NULL : wrong_setting(info->Config);
+    if (wrong)
+        quit(1, "the consumer %s of the stream %s has a %s that will not do: delete it", CONSUMER, stream, wrong);
     if (status == NATS_OK && info->Config->AckWait != time) {
         info->Config->AckWait = time;
         status = js_UpdateConsumer(NULL, jets, stream, info->Config, NULL, NULL);

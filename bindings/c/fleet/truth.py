@@ -78,6 +78,27 @@ def no_jetstream():
     assert "has no JetStream any more" in end(process, 0, 1)
 
 
+def consumer_of_others():
+    """A consumer that is not as the fleet needs it is found at start: one line, and status 1. Without it all jobs run."""
+    server = Server("consumer")
+    server.make("OTHER", subjects=["OTHER", "MORE"], retention="limits")
+    fill(server, "OTHER", range(3))
+    settings = [("ack_policy", "none"), ("ack_policy", "all"), ("deliver_policy", "new"), ("filter_subject", "MORE")]
+    settings += [("max_deliver", 5), ("headers_only", True), ("deliver_subject", "here"), ("replay_policy", "original")]
+    settings += [("max_batch", 5), ("max_expires", 10**9), ("max_bytes", 1000), ("ack_wait", 7 * 10**9)]
+    for name, setting in settings:
+        config = {"durable_name": "fleet", "ack_policy": "explicit", "deliver_policy": "all", name: setting}
+        answer = server.ask("CONSUMER.DURABLE.CREATE.OTHER.fleet", stream_name="OTHER", config=config)
+        assert "error" not in answer, answer
+        if name != "ack_wait":  # (which the fleet changes)
+            said = end(fleet(server, "OTHER"), 0, 1)
+            assert f"has a {name} that will not do" in said and said.count("\n") == 1, said
+            server.ask("CONSUMER.DELETE.OTHER.fleet")
+    process = fleet(server, "OTHER")
+    wait(lambda: len(rows("OTHER")) == 3)
+    end(process)
+
+
 def stream_goes():
     """A stream that is deleted while the process has jobs: one line, and status 1."""
     server = Server("goes")
@@ -178,4 +199,4 @@ def drain():
         server.process.send_signal(signal.SIGCONT)
 
 
-parts = [fill_counts, fill_again, no_jetstream, stream_goes, jobs_of_any_bytes, server_killed, numbers_again, drain]
+parts = [fill_counts, fill_again, no_jetstream, consumer_of_others, stream_goes, jobs_of_any_bytes, server_killed, numbers_again, drain]
