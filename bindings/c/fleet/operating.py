@@ -43,7 +43,7 @@ def limit_of_tries():
         aborts = re.findall(r"job (\d+) aborts the process", text)
         assert (process.returncode, len(aborts)) in ((0, 0), (-6, 1)), f"{process.returncode}: {text}"
         deaths.update(aborts)
-    expect_each("TRIES", range(100, 1078))
+    expect_each("TRIES", range(100, 1078), 2 * HELD)  # (each of the two may end a process in the midst of others)
     assert {*deaths} == {"21", "22"} and max(deaths.values()) <= 3, f"processes ended by each job: {deaths}"
     letters = dict(dead_letters(server, "TRIES"))
     assert set(letters) == {*failing, *aborting} and server.left("TRIES-dead") == 22, letters
