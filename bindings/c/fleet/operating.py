@@ -240,9 +240,9 @@ def page():
         said.append(fresh_user(["bash", "-m"], input=block, cwd=copy, timeout=300))
     numbers = [int(it) for it in said[0].splitlines() if it.isdigit()]
     jobs = int(re.search(r"seq 1 (\d+)", first).group(1))
-    assert numbers[0] == jobs and jobs <= numbers[1] <= jobs + 4, said
+    assert jobs <= numbers[0] <= jobs + 4, said
     assert said[0].count(" unsettled 0\n") == 2 and f"of {jobs} jobs {jobs} went into" in said[0], said
-    assert said[1].count("\t2\tjob ") == said[1].count("No space left on device") == 3 and "\n3\n" in said[1], said
+    assert said[1].count("\t2\tjob ") == said[1].count("No space left on device") == 3, said
     assert "3 jobs went back into" in said[1], said
 
 
