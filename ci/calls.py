@@ -11,8 +11,8 @@ import re
 import sys
 
 TOP = os.path.dirname(os.path.dirname(os.path.abspath(__file__)))
-# (a pointer to `void` counts as one to bytes)
-NUMBERS = {"uint64_t": "u64", "uint32_t": "u32", "uint8_t": "u8", "size_t": "usize", "void": "u8", "c_void": "u8"}
+# (a pointer to `void` counts as one to bytes, and a `Word` of the crate's has the bytes of a `u64`)
+NUMBERS = {"uint64_t": "u64", "uint32_t": "u32", "uint8_t": "u8", "size_t": "usize", "void": "u8", "c_void": "u8", "Word": "u64"}
 C_CALL = re.compile(r"^(\w+) (hz_\w+)\(([^;]*)\);", re.M)
 C_STRUCT = re.compile(r"typedef struct \{(.*?)\} hz_(\w+);", re.S)
 RUST_CALL = re.compile(r"\bfn (hz_\w+)\(((?:\[[^]]*\]|[^;{])*?)\)(?: -> (\w+))?\s*(?=[;{]|requires|ensures|ghost)")

@@ -24,7 +24,7 @@ class Calls(unittest.TestCase):
     def test_each_difference_is_told(self):
         for text in (CRATE, PROVED):
             for old, new in (
-                (r"(fn hz_put\([^)]*)u64", r"\1u32"),
+                (r"(fn hz_put\([^)]*)(u64|Word)", r"\1u32"),
                 (r"(fn hz_put\([^)]*)&mut ", r"\1&"),
                 (r"(fn hz_put\([^)]*\)) -> u32", r"\1"),
                 (r"(fn hz_poll\([^)]*), \w+: u64,", r"\1,") if text is PROVED else (r"(fn hz_poll\([^)]*)budget: u64,", r"\1"),

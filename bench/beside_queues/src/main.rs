@@ -23,8 +23,8 @@ fn shaped(shape: Shape) -> Builder<u64> {
     Mailbox::numbers().shape(shape)
 }
 
-/// A builder of mailboxes of this shape that have a box for each item.
-fn boxed(shape: Shape) -> Builder<u64> {
+/// A builder of mailboxes of this shape whose items are boxes.
+fn boxed(shape: Shape) -> Builder<Box<u64>> {
     Mailbox::builder().shape(shape)
 }
 
@@ -36,9 +36,9 @@ fn run(what: &str, plan: Plan) -> Option<Duration> {
         "last" => mailbox(|| shaped(Shape::Last), plan, |item| item),
         "fastlast" => mailbox(|| shaped(Shape::FastLast), plan, |item| item),
         "exchange" => mailbox(|| shaped(Shape::Exchange), plan, |item| item),
-        "plain_boxes" => mailbox(|| boxed(Shape::Plain), plan, |item| item),
-        "boxes" => mailbox(|| boxed(Shape::FastLast), plan, |item| item),
-        "exchange_boxes" => mailbox(|| boxed(Shape::Exchange), plan, |item| item),
+        "plain_boxes" => mailbox(|| boxed(Shape::Plain), plan, Box::new),
+        "boxes" => mailbox(|| boxed(Shape::FastLast), plan, Box::new),
+        "exchange_boxes" => mailbox(|| boxed(Shape::Exchange), plan, Box::new),
         "seg" => queue(|_| SegQueue::new(), plan, |item| item),
         "seg_boxes" => queue(|_| SegQueue::new(), plan, Box::new),
         "array" => queue(ArrayQueue::new, plan, |item| item),

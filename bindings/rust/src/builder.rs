@@ -1,9 +1,10 @@
 //! The settings of a mailbox, and how it is built from them.
 use crate::errors::BuildError;
-use crate::ffi::{Carrier, Setup, BITS, MIDDLE, UNARY};
+use crate::ffi::{Setup, BITS, MIDDLE, UNARY};
 use crate::mailbox::Mailbox;
 use crate::seeds;
 use std::fmt;
+use std::marker::PhantomData;
 
 /// The quorum table of the ratifiers in each cell. All promises hold with each. How many accesses polls make differs.
 #[derive(Clone, Copy, PartialEq, Eq, Hash, Debug, Default)]
@@ -41,7 +42,6 @@ pub enum Shape {
 /// refuses a number out of range. It may be called more than once, as for a new mailbox in each round.
 #[must_use = "it builds no mailbox until `build` is called"]
 pub struct Builder<T> {
-    carrier: Carrier<T>,
     producers: usize,
     consumers: usize,
     cells: usize,
@@ -49,12 +49,12 @@ pub struct Builder<T> {
     table: Table,
     shape: Shape,
     seed: Option<[u8; 32]>,
+    values: PhantomData<fn(T) -> T>,
 }
 
 impl<T> Builder<T> {
-    pub(crate) fn new(carrier: Carrier<T>) -> Builder<T> {
+    pub(crate) fn new() -> Builder<T> {
         Builder {
-            carrier,
             producers: 1,
             consumers: 1,
             cells: 256,
@@ -62,6 +62,7 @@ impl<T> Builder<T> {
             table: Table::default(),
             shape: Shape::default(),
             seed: None,
+            values: PhantomData,
         }
     }
 
@@ -146,7 +147,7 @@ impl<T: Send> Builder<T> {
             last: matches!(self.shape, Shape::Last | Shape::FastLast | Shape::Exchange),
         };
         let seed = self.seed.unwrap_or_else(seeds::from_system);
-        Mailbox::new(&setup, self.carrier, seed)
+        Mailbox::new(&setup, seed)
     }
 }
 

@@ -1,6 +1,6 @@
 //! A mailbox for threads: each producer puts values into a lane of its own, all consumers compete for each value, and **at
 //! most one consumer takes it**. A report at the end says who took what, and gives back what is left. No put and no poll
-//! takes a lock or waits, except in the allocator, for the box of a value.
+//! takes a lock or waits, except in the allocator, for the box of a large value.
 //!
 //! [`channel`] is a channel over such mailboxes: any number of values may be sent, and receivers sleep until one comes.
 //!
@@ -33,8 +33,8 @@
 //!
 //! # Types
 //!
-//! - [`Mailbox::builder`] is for values of any type that is [`Send`], each in a box of its own. [`Mailbox::numbers`] is
-//!   for `u64`, without boxes.
+//! - [`Mailbox::builder`] is for values of any type that is [`Send`]. One of more than eight bytes is put in a box.
+//!   [`Mailbox::numbers`] is for `u64`.
 //! - A [`Producer`] puts values. It ends its lane and returns to its mailbox when it is dropped, also by a panic.
 //! - A [`Consumer`] takes from one lane, or from all in turn. It returns to its mailbox when it is dropped.
 //! - [`Mailbox::gather`] makes the [`Report`] after all producers and consumers were dropped.
@@ -49,7 +49,7 @@
 //! consumer holds its own mailbox, is used by one thread at a time, is not `Clone`, and cannot be used after its drop. All
 //! `unsafe` code is in one module, and each block says why it is sound.
 //!
-//! That a value has one owner *is* the main theorem. The mailbox passes on the address of the value's box. A consumer
+//! That a value has one owner *is* the main theorem. The mailbox passes on the value itself, or its box. A consumer
 //! whose call returns [`Poll::Took`] owns the value. The report owns the values that nobody took. If two consumers took
 //! one item, its value would be freed twice.
 //!

@@ -2,7 +2,7 @@
 use crate::builder::Builder;
 use crate::consumer::Consumer;
 use crate::errors::{BuildError, GatherError, IssueError};
-use crate::ffi::{self, Carrier, NotIssued, Refusal, Setup};
+use crate::ffi::{self, NotIssued, Refusal, Setup};
 use crate::producer::Producer;
 use crate::report::Report;
 use std::fmt;
@@ -15,8 +15,8 @@ use std::sync::{Arc, Mutex, MutexGuard, PoisonError};
 /// with another mailbox.
 ///
 /// If a mailbox is dropped without a gather, the values left inside are dropped as soon as its last producer and consumer
-/// are dropped too. If they are in boxes, a report is made for that. If the archive gets no memory for the report, they
-/// leak. The lists into which the report is read come from Rust's allocator, which aborts the program if there is no
+/// are dropped too. If there is something to drop, a report is made for that. If the archive gets no memory for the
+/// report, they leak. The lists into which the report is read come from Rust's allocator, which aborts the program if there is no
 /// memory.
 ///
 /// If a producer or consumer is forgotten ([`std::mem::forget`]), or put into its own mailbox and left there, the whole
@@ -42,8 +42,8 @@ impl<T> Home<T> {
 }
 
 impl<T: Send> Mailbox<T> {
-    /// Returns a builder of mailboxes for values of any type that is [`Send`]. Each value is put in a box of its own, even
-    /// if it is a box already.
+    /// Returns a builder of mailboxes for values of any type that is [`Send`]. A value of up to eight bytes, such as a
+    /// number or a box, is an item as it is. Each other value is put in a box of its own.
     ///
     /// ```
     /// # fn main() -> Result<(), Box<dyn std::error::Error>> {
@@ -55,12 +55,12 @@ impl<T: Send> Mailbox<T> {
     /// # }
     /// ```
     pub fn builder() -> Builder<T> {
-        Builder::new(Carrier::BOXED)
+        Builder::new()
     }
 }
 
 impl Mailbox<u64> {
-    /// Returns a builder of mailboxes for numbers, which need no boxes. So a put asks for no memory.
+    /// The [`builder`](Mailbox::builder) for numbers, which need no boxes. So a put asks for no memory.
     ///
     /// ```
     /// # fn main() -> Result<(), Box<dyn std::error::Error>> {
@@ -72,18 +72,14 @@ impl Mailbox<u64> {
     /// # }
     /// ```
     pub fn numbers() -> Builder<u64> {
-        Builder::new(Carrier::NUMBER)
+        Builder::new()
     }
 }
 
 impl<T> Mailbox<T> {
-    pub(crate) fn new(
-        setup: &Setup,
-        carrier: Carrier<T>,
-        seed: [u8; 32],
-    ) -> Result<Mailbox<T>, BuildError> {
+    pub(crate) fn new(setup: &Setup, seed: [u8; 32]) -> Result<Mailbox<T>, BuildError> {
         let home = Home {
-            hub: Mutex::new(ffi::Hub::new(setup, carrier)?),
+            hub: Mutex::new(ffi::Hub::new(setup)?),
             seed,
             lanes: ffi::number(setup.producers),
             consumers: ffi::number(setup.consumers),

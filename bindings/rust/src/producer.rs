@@ -43,7 +43,7 @@ impl<T> Producer<T> {
     ///
     /// The first value put on a lane has place 0, the next place 1. [`Report::taker`](crate::Report::taker) takes a place.
     ///
-    /// A value's box comes from Rust's allocator, which aborts the program if there is no memory for it.
+    /// The box of a larger value comes from Rust's allocator, which aborts the program if there is no memory for it.
     ///
     /// # Errors
     /// No cell of the mailbox is left, and none becomes free later. The error has the value.

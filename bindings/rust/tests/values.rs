@@ -1,8 +1,9 @@
 //! Tests of values of many types, which come out as they were, of reports, and of all tables, shapes and seeds.
+use hazbultra::channel::unbounded;
 use hazbultra::{Full, Mailbox, Note, Poll, Shape, Table};
 use std::thread;
 
-/// Puts these values into a mailbox, and returns those that its one consumer takes.
+/// Puts these values into a mailbox, and sends those that its one consumer takes. Returns what is received.
 fn through<T: Send>(values: Vec<T>) -> Vec<T> {
     let mailbox = Mailbox::builder().build().unwrap();
     let (mut producer, mut consumer) = (mailbox.producer().unwrap(), mailbox.consumer().unwrap());
@@ -10,7 +11,11 @@ fn through<T: Send>(values: Vec<T>) -> Vec<T> {
         producer.put(value).unwrap();
     }
     producer.finish();
-    consumer.values(thread::yield_now).collect()
+    let (sender, receiver) = unbounded();
+    let sent = consumer.values(thread::yield_now).map(|it| sender.send(it));
+    assert!(sent.into_iter().all(|it| it.is_ok()));
+    drop(sender);
+    receiver.iter().collect()
 }
 
 #[test]
@@ -18,6 +23,14 @@ fn values_come_out_as_they_were() {
     assert_eq!(through(vec![(), (), ()]).len(), 3);
     assert_eq!(through(vec![String::from("a"), String::new()]), ["a", ""]);
     assert_eq!(through(vec![Some(1_u8), None]), [Some(1), None]);
+    // (eight bytes, some of which are padding, or a pointer's, and then more)
+    assert_eq!(through(vec![(1_u8, 2_u32)]), [(1, 2)]);
+    assert_eq!(
+        through(vec![Some(Box::new(3)), None]),
+        [Some(Box::new(3)), None]
+    );
+    assert_eq!(through(vec![&4, &5]), [&4, &5]);
+    assert_eq!(through(vec![(6, 7_u64), (8, 9)]), [(6, 7), (8, 9)]);
     assert_eq!(through(vec![[7_u64; 100]]), [[7; 100]]);
     assert_eq!(through(vec![u64::MAX, 0]), [u64::MAX, 0]);
     let local = String::from("borrowed");
@@ -28,8 +41,13 @@ fn values_come_out_as_they_were() {
 fn values_keep_their_alignment() {
     #[repr(align(4096))]
     struct Page(u8);
+    #[repr(align(16))]
+    struct Empty;
     for Page(byte) in &through((0..10).map(Page).collect()) {
         assert_eq!(std::ptr::from_ref(byte).addr() % 4096, 0);
+    }
+    for empty in &through(vec![Empty, Empty]) {
+        assert_eq!(std::ptr::from_ref(empty).addr() % 16, 0);
     }
 }
 

@@ -1,6 +1,7 @@
 //! Who sent what, who took it, and what is left.
 use super::errors::written;
 use super::system::{lock, Panics};
+use crate::ffi::Word;
 use crate::{Mailbox, Note, Report};
 use std::collections::{BTreeMap, VecDeque};
 use std::fmt;
@@ -127,7 +128,7 @@ impl<T> Ledger<T> {
     }
 
     /// Makes the account of a mailbox to which all producers and consumers were returned.
-    pub(super) fn close(&self, mailbox: Mailbox<u64>, logs: &Logs, left: Vec<T>) {
+    pub(super) fn close(&self, mailbox: Mailbox<Word>, logs: &Logs, left: Vec<T>) {
         let Ok(report) = mailbox.gather() else {
             lock(&self.book).totals.unknown += 1;
             let fates = Vec::new();
@@ -147,7 +148,7 @@ impl<T> Ledger<T> {
 }
 
 /// The report says which consumer took which place, and the logs say which sender and receiver that was.
-fn fates(report: &Report<u64>, logs: &Logs) -> Vec<Fate> {
+fn fates(report: &Report<Word>, logs: &Logs) -> Vec<Fate> {
     let senders = logs.senders.iter();
     let mut fates: Vec<_> = senders.map(|it| Fate::new(*it, None)).collect();
     for (consumer, takers) in &logs.takers {

@@ -36,8 +36,8 @@
 //!
 //! The values stand in a *chain*: segment after segment, each a [`Mailbox`](crate::Mailbox) with one lane. Senders put into
 //! the last one, one at a time. Each of the first 64 receivers has a consumer of its own in the segment that it stands in. A
-//! claim is one compare-exchange. The items are the numbers of slots, so no value is boxed. A table in the crate's README
-//! says what is proved, and what is tested.
+//! claim is one compare-exchange. A value of up to eight bytes is the item itself. Each other one stands in a slot, whose
+//! number is the item. So no value is boxed. A table in the crate's README says what is proved, and what is tested.
 //!
 //! A channel of bound 0 has no chain: each value goes from hand to hand, under one lock.
 mod audit;

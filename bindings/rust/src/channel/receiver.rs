@@ -17,7 +17,7 @@ use std::time::{Duration, Instant};
 /// **Locks of a receive.** Each of the first 64 receivers has a seat of its own, and further ones share these. A receive
 /// holds the lock of its seat, and waits for no other seat. So it waits only for threads that use the same receiver or
 /// seat, and for the few steps in which somebody moves the seat on or looks for room. A receive that comes to a new
-/// segment takes the lock under which the channel keeps the first one, and that under which the mailbox issues consumers.
+/// segment takes the lock under which the channel keeps the first one, and those under which consumers are issued.
 /// With an audit it also takes those of the segment's log and of the accounts. The first receive to leave a segment takes
 /// the lock of the list of seats, and tries that of each. A receive that sleeps, or makes room for a sender that does,
 /// takes the lock of the list of sleepers. With bound 0 each call takes the channel's one lock.

@@ -1,5 +1,6 @@
 //! The calls of the archive, as `bindings/c/hazbultra.h` declares them. CI compares the two, name by name.
 use super::handle::Handle;
+use super::word::Word;
 use std::mem::offset_of;
 
 /// How large a mailbox is.
@@ -96,10 +97,10 @@ unsafe extern "C" {
         consumer: &mut Handle,
         number: &mut u64,
     ) -> u32;
-    pub(super) fn hz_put(producer: &mut Handle, item: u64) -> u32;
+    pub(super) fn hz_put(producer: &mut Handle, item: Word) -> u32;
     pub(super) fn hz_finish(producer: &mut Handle) -> u32;
-    pub(super) fn hz_poll(consumer: &mut Handle, lane: u64, budget: u64, value: &mut u64) -> u32;
-    pub(super) fn hz_take(consumer: &mut Handle, lane: u64, most: u64, value: &mut u64) -> u32;
+    pub(super) fn hz_poll(consumer: &mut Handle, lane: u64, budget: u64, value: &mut Word) -> u32;
+    pub(super) fn hz_take(consumer: &mut Handle, lane: u64, most: u64, value: &mut Word) -> u32;
     pub(super) fn hz_take_back(hub: &mut Handle, part: &mut Handle) -> u32;
     pub(super) fn hz_gather(hub: &mut Handle, report: &mut Handle, missing: &mut Missing) -> u32;
     pub(super) fn hz_report_size(report: &mut Handle, lanes: &mut u64, consumers: &mut u64) -> u32;
@@ -115,7 +116,7 @@ unsafe extern "C" {
         lane: u64,
         left: bool,
         from: u64,
-        items: *mut u64,
+        items: *mut Word,
         room: usize,
         copied: &mut u64,
     ) -> u32;

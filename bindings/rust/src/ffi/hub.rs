@@ -1,10 +1,10 @@
 //! A hub of the archive, with its mailbox.
 use super::calls::{self, excluded, expect_done, hz_consumer_new, hz_gather, hz_mailbox_new};
 use super::calls::{hz_poll, hz_producer_new, hz_take, hz_take_back, number, Missing, Setup};
-use super::carrier::Carrier;
 use super::handle::Handle;
 use super::parts::{Call, Consumer, Producer};
 use super::report::{read_diaries, read_lanes};
+use super::word::owns;
 use crate::errors::BuildError;
 use crate::report::Report;
 use std::cell::Cell;
@@ -14,11 +14,9 @@ use std::sync::atomic::{AtomicU64, Ordering};
 /// The number of the next mailbox. No process makes 2^64 of them.
 static NUMBERS: AtomicU64 = AtomicU64::new(0);
 
-/// A mailbox with its hub. All its producers and consumers have the same carrier, so this carrier made the word of each
-/// item.
+/// A mailbox with its hub. `Word::pack` of a `T` made the word of each of its items.
 pub(crate) struct Hub<T> {
     handle: Handle,
-    carrier: Carrier<T>,
     /// The shorter call of a consumer for an item that is not lost. If claims have pairs, that is a poll.
     shortest: Call,
     values: PhantomData<Cell<T>>,
@@ -41,7 +39,7 @@ pub(crate) enum NotIssued {
 }
 
 impl<T> Hub<T> {
-    pub(crate) fn new(setup: &Setup, carrier: Carrier<T>) -> Result<Hub<T>, BuildError> {
+    pub(crate) fn new(setup: &Setup) -> Result<Hub<T>, BuildError> {
         // (`Relaxed` suffices: no two of these steps return one number, in any order, and the number orders nothing else)
         let id = NUMBERS.fetch_add(1, Ordering::Relaxed);
         let mut handle = Handle::empty();
@@ -49,7 +47,6 @@ impl<T> Hub<T> {
         match unsafe { hz_mailbox_new(id, setup, &mut handle) } {
             calls::DONE => Ok(Hub {
                 handle,
-                carrier,
                 shortest: if setup.pairs == 0 { hz_take } else { hz_poll },
                 values: PhantomData,
             }),
@@ -70,7 +67,6 @@ impl<T> Hub<T> {
         issued("hz_producer_new", code)?;
         let producer = Producer {
             handle,
-            carrier: self.carrier,
             values: PhantomData,
         };
         Ok((producer, number(lane)))
@@ -85,7 +81,6 @@ impl<T> Hub<T> {
         let consumer = Consumer {
             handle,
             shortest: self.shortest,
-            carrier: self.carrier,
             values: PhantomData,
         };
         Ok((consumer, number(given)))
@@ -112,9 +107,9 @@ impl<T> Hub<T> {
     pub(crate) fn gather(&mut self) -> Result<Report<T>, Refusal> {
         let mut report = self.end()?;
         let diaries = read_diaries(&mut report);
-        // SAFETY: all words of this mailbox are of its carrier, and it has ended now. Its hub leads to nothing now, so
+        // SAFETY: all words of this mailbox are of values of `T`, and it has ended now. Its hub leads to nothing now, so
         // no other report of it is read.
-        let lanes = unsafe { read_lanes(report, self.carrier) };
+        let lanes = unsafe { read_lanes(report) };
         Ok(Report { lanes, diaries })
     }
 
@@ -134,14 +129,14 @@ impl<T> Hub<T> {
     }
 }
 
-/// A mailbox that nobody gathered drops what is inside. If there is no memory for the report, the values leak. Numbers
-/// need no drop, so no report is made of them.
+/// A mailbox that nobody gathered drops what is inside. If there is no memory for the report, the values leak. If
+/// they need no drop, no report is made.
 impl<T> Drop for Hub<T> {
     fn drop(&mut self) {
-        if self.carrier.owns() && self.handle.is_full() {
+        if owns::<T>() && self.handle.is_full() {
             if let Ok(report) = self.end() {
                 // SAFETY: as in `gather`. Nobody wants the diaries, so they are not read.
-                drop(unsafe { read_lanes(report, self.carrier) });
+                drop(unsafe { read_lanes::<T>(report) });
             }
         }
     }

@@ -16,7 +16,7 @@
 //!
 //! # Why a value has one owner
 //!
-//! An item of the archive is a word. Here the word stands for a value: it is the value itself, the address of its box, or
+//! An item of the archive is a word. Here the word stands for a value: it is the value itself, a box of it, or
 //! the number of its slot. Whoever turns the word back into the value has to be the only one. These proved clauses of the
 //! archive's calls say so. The comments name them `ownership`:
 //!
@@ -32,19 +32,19 @@
 //! A word is an item of a place in a lane. Two places may hold equal words: a box that was taken and freed leaves its
 //! address to a later one, and boxes of no bytes share an address. Then each of the two is a value of its own.
 //!
-//! What a producer wrote to a box or a slot before its put is seen by whoever takes it, since both access the shared words in the one
-//! order of all `SeqCst` accesses.
+//! What a producer wrote before its put, also to a box or a slot, is seen by whoever takes the item, since both access the
+//! shared words in the one order of all `SeqCst` accesses.
 mod calls;
-mod carrier;
 mod handle;
 mod heap;
 mod hub;
 mod parts;
 mod report;
 mod slots;
+mod word;
 
 pub(crate) use calls::{number, Setup, BITS, MIDDLE, UNARY};
-pub(crate) use carrier::Carrier;
 pub(crate) use hub::{Hub, NotIssued, Refusal};
 pub(crate) use parts::{Consumer, Producer};
 pub(crate) use slots::{Emptier, Filler, Slots};
+pub(crate) use word::Word;

@@ -1,8 +1,8 @@
 //! A report of the archive, read into one of Rust.
 use super::calls::{self, excluded, expect_done, hz_report_diary, hz_report_items};
 use super::calls::{hz_report_lane, hz_report_notes, hz_report_size, number, Diary, Lane};
-use super::carrier::Carrier;
 use super::handle::Handle;
+use super::word::Word;
 use crate::report::{self, LaneReport, Note};
 
 /// The diaries of a report, by consumers, and for each by lanes.
@@ -17,9 +17,8 @@ pub(super) fn read_diaries(report: &mut Handle) -> Vec<report::Diary> {
 /// The lanes of a report, in which each item that is left is a value again. The report is used up.
 ///
 /// # Safety
-/// The handle leads to a report of a mailbox whose items are words that this carrier made, and no other report of it is
-/// read.
-pub(super) unsafe fn read_lanes<T>(mut report: Handle, carrier: Carrier<T>) -> Vec<LaneReport<T>> {
+/// The handle leads to a report of a mailbox whose items are words of values of `T`, and no other report of it is read.
+pub(super) unsafe fn read_lanes<T>(mut report: Handle) -> Vec<LaneReport<T>> {
     let (lanes, _) = read_size(&mut report);
     // All words are read before the first of them becomes a value.
     let read: Vec<_> = (0..lanes)
@@ -31,9 +30,9 @@ pub(super) unsafe fn read_lanes<T>(mut report: Handle, carrier: Carrier<T>) -> V
             ended: lane.ended,
             left: left
                 .into_iter()
-                // SAFETY: ownership. The item was put with this carrier, no consumer took it, and after the end of the
+                // SAFETY: ownership. `Word::pack` made the item of a `T`, no consumer took it, and after the end of the
                 // mailbox none can. It stands in the list of what is left once, and the list is read once.
-                .map(|word| unsafe { carrier.unpack(word) })
+                .map(|word| unsafe { word.unpack() })
                 .collect(),
         })
         .collect()
@@ -49,12 +48,12 @@ fn read_size(report: &mut Handle) -> (u64, u64) {
 }
 
 /// The numbers of a lane, and the words that are left of it.
-fn read_lane(report: &mut Handle, lane: u64) -> (Lane, Vec<u64>) {
+fn read_lane(report: &mut Handle, lane: u64) -> (Lane, Vec<Word>) {
     let mut numbers = Lane::default();
     // SAFETY: the rules of calls.
     let code = unsafe { hz_report_lane(report, lane, &mut numbers) };
     expect_done("hz_report_lane", code);
-    let mut left = vec![0; number(numbers.left)];
+    let mut left = vec![Word::EMPTY; number(numbers.left)];
     let mut copied = 0;
     // SAFETY: the rules of calls. There is room for as many words as the vector has.
     let code = unsafe {

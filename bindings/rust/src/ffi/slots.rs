@@ -1,83 +1,111 @@
-//! Values that stand in slots. The numbers of the slots are the items of a mailbox of one lane.
+//! Values that go through a mailbox of one lane. A value that fits into a word is the item itself. Each other one stands in a
+//! slot, and the number of the slot is the item.
 //!
 //! This file alone puts and takes those items. A slot is the filler's until it puts the slot's number, once. After that it is
-//! the emptier's that takes the number: `ownership` says that there is one at most, and that an emptier takes numbers in
-//! the order put. So it knows from which slot on it emptied none. When filler and emptiers are gone, the slots belong to
-//! whoever has them all. Those that were filled, and come after all that were emptied, have values. No other is read.
+//! the emptier's that takes the number: `ownership` says that there is one at most. What is left is taken like the rest,
+//! by the last consumer.
 use super::calls::{self, hz_put, hz_take, number};
+use super::word::{fits, Word};
 use crate::{Consumer, Mailbox, Producer, Shape};
 use std::cell::UnsafeCell;
+use std::iter;
 use std::mem::MaybeUninit;
-use std::sync::atomic::{AtomicUsize, Ordering::Relaxed};
-use std::sync::Arc;
+use std::sync::{Arc, Mutex, MutexGuard, PoisonError};
 
 struct Slot<T>(UnsafeCell<MaybeUninit<T>>);
 
-// SAFETY: only whose slot it is accesses it. It goes on by the mailbox's shared words, and last by the count of an `Arc`.
+// SAFETY: only whose slot it is accesses it. It goes on by the mailbox's shared words.
 unsafe impl<T: Send> Sync for Slot<T> {}
 
 pub(crate) struct Slots<T> {
+    /// None if values are items.
     all: Vec<Slot<T>>,
-    mailbox: Mailbox<u64>,
-    /// So many were filled, as soon as the filler is gone.
-    filled: AtomicUsize,
-    /// From this one on none was emptied by an emptier that is gone.
-    emptied: AtomicUsize,
+    mailbox: Mailbox<Word>,
+    /// Takes what is left, if that is wanted. It is made early, since there may be no memory later.
+    spare: Mutex<Option<Consumer<Word>>>,
 }
 
 /// Fills the slots, from the first to the last. Its drop ends the lane.
 pub(crate) struct Filler<T> {
-    producer: Producer<u64>,
+    producer: Producer<Word>,
     filled: usize,
     slots: Arc<Slots<T>>,
 }
 
 /// Empties the slots whose numbers it takes.
 pub(crate) struct Emptier<T> {
-    consumer: Consumer<u64>,
-    /// From this one on it emptied none.
-    emptied: usize,
+    consumer: Consumer<Word>,
     slots: Arc<Slots<T>>,
 }
 
 impl<T> Slots<T> {
-    /// The filler of so many slots, for so many emptiers, as many as a mailbox may have. It is `None` if there is not enough
-    /// memory.
-    pub(crate) fn filler(cells: usize, consumers: usize) -> Option<Filler<T>> {
+    /// The filler of so many slots, for so many emptiers, as many as a mailbox may have. It is said whether what is left is
+    /// wanted. It is `None` if there is not enough memory.
+    pub(crate) fn filler(
+        cells: usize,
+        consumers: usize,
+        is_left_wanted: bool,
+    ) -> Option<Filler<T>> {
         let mut all = Vec::new();
-        all.try_reserve_exact(cells).ok()?;
-        all.resize_with(cells, || Slot(UnsafeCell::new(MaybeUninit::uninit())));
-        let builder = Mailbox::numbers().cells(cells).consumers(consumers);
+        if !fits::<T>() {
+            all.try_reserve_exact(cells).ok()?;
+            all.resize_with(cells, || Slot(UnsafeCell::new(MaybeUninit::uninit())));
+        }
+        let builder = Mailbox::builder().cells(cells).consumers(consumers);
         // (it draws no random words, so one seed does)
         let mailbox = builder.shape(Shape::Exchange).seed([0; 32]).build().ok()?;
+        let spare = is_left_wanted.then(|| mailbox.consumer());
         Some(Filler {
             producer: mailbox.producer().ok()?,
             filled: 0,
             slots: Arc::new(Slots {
                 all,
+                spare: Mutex::new(spare.transpose().ok()?),
                 mailbox,
-                filled: AtomicUsize::new(0),
-                emptied: AtomicUsize::new(0),
             }),
         })
     }
 
     /// A further emptier, of so many at most. It is `None` if there is not enough memory.
     pub(crate) fn emptier(self: &Arc<Self>) -> Option<Emptier<T>> {
+        let spare = self.spare().take();
         Some(Emptier {
-            consumer: self.mailbox.consumer().ok()?,
-            emptied: 0,
+            consumer: spare.or_else(|| self.mailbox.consumer().ok())?,
             slots: Arc::clone(self),
         })
     }
 
-    /// The values that are left, and the mailbox. A value that nobody asks for is not dropped.
-    pub(crate) fn into_parts(self) -> (impl Iterator<Item = T>, Mailbox<u64>) {
-        let (emptied, filled) = (self.emptied.into_inner(), self.filled.into_inner());
-        let left = self.all.into_iter().take(filled).skip(emptied);
-        // SAFETY: filler and emptiers are gone, since each has an `Arc` of the slots. This one was filled, and not emptied.
-        let left = left.map(|it| unsafe { it.0.into_inner().assume_init() });
-        (left, self.mailbox)
+    fn spare(&self) -> MutexGuard<'_, Option<Consumer<Word>>> {
+        self.spare.lock().unwrap_or_else(PoisonError::into_inner)
+    }
+
+    /// The next value that no other consumer takes. If there is none, it is whether none comes.
+    #[inline]
+    fn take(&self, consumer: &mut Consumer<Word>) -> Result<T, bool> {
+        let mut item = Word::EMPTY;
+        // SAFETY: the rules of calls.
+        let code = unsafe { hz_take(&mut consumer.part.handle, 0, u64::MAX, &mut item) };
+        if code != calls::TOOK {
+            return Err(code == calls::ENDED);
+        }
+        if fits::<T>() {
+            // SAFETY: ownership. The filler made the word of a `T`, and this consumer alone takes it, now.
+            return Ok(unsafe { item.value() });
+        }
+        // SAFETY: the filler put a number.
+        let slot = self.all[number(unsafe { item.value() })].0.get();
+        // SAFETY: ownership. The slot was filled before its number was put, and this consumer alone takes that, now.
+        Ok(unsafe { slot.read().assume_init() })
+    }
+
+    /// The values that are left, after the filler and the emptiers are gone.
+    pub(crate) fn left(&self) -> impl Iterator<Item = T> + '_ {
+        let mut spare = self.spare().take();
+        iter::from_fn(move || self.take(spare.as_mut()?).ok())
+    }
+
+    pub(crate) fn into_mailbox(self) -> Mailbox<Word> {
+        self.mailbox
     }
 }
 
@@ -94,20 +122,18 @@ impl<T> Filler<T> {
     /// Fills the next slot, of which there has to be one.
     #[inline]
     pub(crate) fn fill(&mut self, value: T) {
-        let slot = self.slots.all[self.filled].0.get();
-        // SAFETY: the slot is this filler's, since its number was not put.
-        unsafe { slot.write(MaybeUninit::new(value)) };
-        // SAFETY: the rules of calls. A number is its own word.
-        let code = unsafe { hz_put(&mut self.producer.part.handle, self.filled as u64) };
+        let item = if fits::<T>() {
+            Word::of(value)
+        } else {
+            let slot = self.slots.all[self.filled].0.get();
+            // SAFETY: the slot is this filler's, since its number was not put.
+            unsafe { slot.write(MaybeUninit::new(value)) };
+            Word::of(self.filled as u64)
+        };
+        // SAFETY: the rules of calls.
+        let code = unsafe { hz_put(&mut self.producer.part.handle, item) };
         debug_assert!(code == calls::LINKED, "there is a cell for each slot");
         self.filled += 1;
-    }
-}
-
-impl<T> Drop for Filler<T> {
-    fn drop(&mut self) {
-        // (`Relaxed` suffices: `into_parts` reads it after this filler's `Arc` was dropped, which orders the two)
-        self.slots.filled.store(self.filled, Relaxed);
     }
 }
 
@@ -117,26 +143,15 @@ impl<T> Emptier<T> {
         self.consumer.number()
     }
 
-    /// The value of the next slot that nobody else empties. If there is none, it is whether none comes.
+    /// The next value that nobody else takes. If there is none, it is whether none comes.
     #[inline]
     pub(crate) fn take(&mut self) -> Result<T, bool> {
-        let (consumer, mut taken) = (&mut self.consumer.part.handle, 0);
-        // SAFETY: the rules of calls. A number is its own word.
-        let code = unsafe { hz_take(consumer, 0, u64::MAX, &mut taken) };
-        if code != calls::TOOK {
-            return Err(code == calls::ENDED);
-        }
-        let taken = number(taken);
-        let slot = self.slots.all[taken].0.get();
-        self.emptied = taken + 1;
-        // SAFETY: ownership. The slot was filled before its number was put, and this emptier alone takes that, now.
-        Ok(unsafe { slot.read().assume_init() })
+        self.slots.take(&mut self.consumer)
     }
-}
 
-impl<T> Drop for Emptier<T> {
-    fn drop(&mut self) {
-        // (`Relaxed`, as above: and one step takes the larger, whatever other emptiers do)
-        self.slots.emptied.fetch_max(self.emptied, Relaxed);
+    /// Leaves before the end. So what is left can be taken by its consumer.
+    pub(crate) fn leave(self) {
+        let old = self.slots.spare().replace(self.consumer);
+        drop(old); // (under no lock)
     }
 }

@@ -1,19 +1,19 @@
-//! A segment of a chain: slots in which the values stand, with a mailbox of one lane for their numbers.
+//! A segment of a chain: a mailbox of one lane for values, or for the numbers of slots in which they stand.
 //!
 //! One sender at a time fills it, from the first slot to the last. Each seat empties slots of it by a consumer of its own.
-//! The main theorem says that no two consumers take the same number. So one alone comes for the value of a slot.
+//! The main theorem says that no two consumers take the same item. So one alone comes for a value.
 use super::{Look, SEATS};
 use crate::channel::audit::{Ledger, Logs};
 use crate::channel::system::{lock, Panics};
 use crate::ffi::{Emptier, Filler, Slots};
-use std::mem;
+use std::mem::{self, needs_drop};
 use std::sync::atomic::{AtomicBool, Ordering::SeqCst};
 use std::sync::{Arc, Mutex, OnceLock};
 
 pub(super) struct Segment<T> {
     /// (there until the drop)
     slots: Option<Arc<Slots<T>>>,
-    /// Whether all slots are known to be taken. A seat that has no emptier here makes none after that.
+    /// Whether all values are known to be taken. A seat that has no emptier here makes none after that.
     is_over: AtomicBool,
     next: OnceLock<Arc<Segment<T>>>,
     audit: Option<(Arc<Ledger<T>>, Mutex<Logs>)>,
@@ -30,7 +30,7 @@ pub(super) struct Writer<T> {
 
 /// Where a seat stands on a chain.
 pub(super) struct Place<T> {
-    /// It is made at the first look, and returned when the segment is over.
+    /// It comes with the first look, and goes when the segment is over.
     emptier: Option<Emptier<T>>,
     /// It is `None` before the first value.
     segment: Option<Arc<Segment<T>>>,
@@ -40,7 +40,7 @@ pub(super) struct Place<T> {
 }
 
 impl<T> Segment<T> {
-    /// Whether all slots are known to be taken.
+    /// Whether all values are known to be taken.
     pub(super) fn is_over(&self) -> bool {
         self.is_over.load(SeqCst)
     }
@@ -59,7 +59,7 @@ impl<T> Segment<T> {
 impl<T> Writer<T> {
     /// A new segment, and its writer. It is `None` if there is not enough memory.
     pub(super) fn new(cells: usize, audit: Option<Arc<Ledger<T>>>) -> Option<Writer<T>> {
-        let filler = Slots::filler(cells, SEATS)?;
+        let filler = Slots::filler(cells, SEATS, audit.is_some() || needs_drop::<T>())?;
         let segment = Arc::new(Segment {
             slots: Some(Arc::clone(filler.slots())),
             is_over: AtomicBool::new(false),
@@ -123,7 +123,7 @@ impl<T> Place<T> {
         self.segment.replace(segment)
     }
 
-    /// Whether all slots of the segment in which it stands are known to be taken.
+    /// Whether all values of the segment in which it stands are known to be taken.
     pub(super) fn is_over(&self) -> bool {
         self.segment.as_ref().is_some_and(|it| it.is_over())
     }
@@ -160,9 +160,10 @@ impl<T> Place<T> {
 
     /// Says that the segment in which it stands is over. Returns whether it is the first to say so.
     pub(super) fn end(&mut self) -> bool {
-        self.go_home();
         let segment = self.segment.as_ref();
-        segment.is_some_and(|it| !it.is_over.swap(true, SeqCst))
+        let is_first = segment.is_some_and(|it| !it.is_over.swap(true, SeqCst));
+        self.go_home();
+        is_first
     }
 
     fn go_home(&mut self) {
@@ -173,6 +174,9 @@ impl<T> Place<T> {
         if let Some((_, logs)) = audit {
             let log = mem::take(&mut self.log);
             lock(logs).takers.push((emptier.number(), log));
+        }
+        if !self.is_over() {
+            emptier.leave();
         }
     }
 }
@@ -190,16 +194,13 @@ impl<T> Drop for Segment<T> {
         let mut panics = Panics::default();
         // (nobody stands in it any more)
         if let Some(slots) = self.slots.take().and_then(Arc::into_inner) {
-            let (left, mailbox) = slots.into_parts();
             match self.audit.take() {
                 Some((ledger, logs)) => {
                     let logs = logs.into_inner().unwrap_or_default();
-                    // (not by `collect`, which would keep the memory of all slots)
-                    let mut kept = Vec::new();
-                    kept.extend(left);
-                    panics.contain(|| ledger.close(mailbox, &logs, kept));
+                    let left = slots.left().collect();
+                    panics.contain(|| ledger.close(slots.into_mailbox(), &logs, left));
                 }
-                None => panics.drop_each(left),
+                None => panics.drop_each(slots.left()),
             }
         }
         let mut next = self.next.take();
