@@ -16,16 +16,20 @@ use std::sync::{Arc, Mutex, MutexGuard, TryLockError};
 pub(crate) struct Chain<T> {
     plan: Plan<T>,
     status: Status,
-    /// (Senders write it again and again, so it stands apart, too.)
-    lane: Line<Mutex<Lane<T>>>,
-    /// How many values were put. It is stored after the value can be taken, and before its put returns. (It stands apart,
-    /// since receivers read it again and again.)
-    put: Line<AtomicU64>,
+    /// (Senders write it again and again, so it stands apart.)
+    end: Line<End<T>>,
     /// How many values were taken. A take counts before its seat's lock is free.
     taken: Line<AtomicU64>,
     /// A segment before which all values are taken, if one was begun. A seat that stands in none comes in here.
     head: Mutex<Option<Arc<Segment<T>>>>,
     seats: Mutex<Vec<Arc<Seat<T>>>>,
+}
+
+/// What each put changes.
+struct End<T> {
+    lane: Mutex<Lane<T>>,
+    /// How many values were put. It is stored after the value can be taken, and before its put returns.
+    put: AtomicU64,
 }
 
 /// Where the next value goes.
@@ -66,12 +70,14 @@ impl<T> Chain<T> {
         Chain {
             plan,
             status: Status::open(),
-            lane: Line(Mutex::new(Lane {
-                writer: None,
-                full: None,
-                plain: 0,
-            })),
-            put: Line(AtomicU64::new(0)),
+            end: Line(End {
+                lane: Mutex::new(Lane {
+                    writer: None,
+                    full: None,
+                    plain: 0,
+                }),
+                put: AtomicU64::new(0),
+            }),
             taken: Line(AtomicU64::new(0)),
             head: Mutex::new(None),
             seats: Mutex::new(Vec::new()),
@@ -84,7 +90,7 @@ impl<T> Chain<T> {
 
     pub(crate) fn len(&self) -> usize {
         loop {
-            let (taken, put) = (self.taken.0.load(SeqCst), self.put.0.load(SeqCst));
+            let (taken, put) = (self.taken.0.load(SeqCst), self.end.0.put.load(SeqCst));
             if self.taken.0.load(SeqCst) == taken {
                 return usize::try_from(put.saturating_sub(taken)).unwrap_or(usize::MAX);
             }
@@ -94,14 +100,14 @@ impl<T> Chain<T> {
     /// Puts a value at the end, under the lane's lock.
     #[inline]
     pub(crate) fn put(&self, value: T, who: u64) -> Result<(), Refused<T>> {
-        let mut lane = lock(&self.lane.0);
+        let mut lane = lock(&self.end.0.lane);
         // (`Relaxed` suffices here and below: the word is stored under this lock alone)
-        let (put, plain) = (self.put.0.load(Relaxed), lane.plain);
+        let (put, plain) = (self.end.0.put.load(Relaxed), lane.plain);
         match &mut lane.writer {
             Some(writer) if put < plain => writer.put(value),
             _ => return self.put_with_care(lane, value, who),
         }
-        self.put.0.store(put + 1, SeqCst);
+        self.end.0.put.store(put + 1, SeqCst);
         Ok(())
     }
 
@@ -113,7 +119,7 @@ impl<T> Chain<T> {
         value: T,
         who: u64,
     ) -> Result<(), Refused<T>> {
-        let put = self.put.0.load(Relaxed);
+        let put = self.end.0.put.load(Relaxed);
         if !self.status.admits(who) {
             return Err(Refused::Closed(value));
         }
@@ -130,7 +136,7 @@ impl<T> Chain<T> {
         if !writer.note(who) {
             lane.end();
         }
-        self.put.0.store(put + 1, SeqCst);
+        self.end.0.put.store(put + 1, SeqCst);
         Ok(())
     }
 
@@ -184,7 +190,7 @@ impl<T> Chain<T> {
         let mut is_first = false;
         let look = loop {
             let taken = self.taken.0.load(SeqCst);
-            if self.put.0.load(SeqCst) <= taken {
+            if self.end.0.put.load(SeqCst) <= taken {
                 break Look::Nothing;
             }
             let next = match place.segment() {
@@ -248,14 +254,14 @@ impl<T> Chain<T> {
     }
 
     pub(crate) fn close(&self, to: State) -> bool {
-        let mut lane = lock(&self.lane.0);
+        let mut lane = lock(&self.end.0.lane);
         lane.plain = 0;
         self.status.advance(to)
     }
 
     pub(crate) fn end(&self) {
         let (full, written) = {
-            let mut lane = lock(&self.lane.0);
+            let mut lane = lock(&self.end.0.lane);
             (lane.full.take(), lane.writer.take().map(Writer::end))
         };
         let head = lock(&self.head).take();
