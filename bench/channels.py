@@ -15,6 +15,8 @@ import measuring
 
 PROGRAM = measuring.ROOM / "release" / "beside_channels"
 CHANNELS = {"hazbultra": "`hazbultra::channel`", "crossbeam": "`crossbeam-channel`", "flume": "`flume`", "std": "`std::sync::mpsc`, a lock"}
+# What is sent: a number, or a number in a box.
+SENT = ("u64", "box")
 THREADS = ((1, 1), (2, 2), (4, 4), (1, 4), (4, 1), (4, 16))
 COUNTED = (2000, 12000)
 
@@ -23,10 +25,10 @@ def told(*words):
     return [int(it) for it in measuring.used((PROGRAM, *words))[2].split()]
 
 
-def counts(what, form):
+def counts(what, sent):
     """The instructions of a value that is received before the next is sent, and of one of many that are sent first."""
     for way in ("relay", "turns"):
-        yield measuring.by_item(*COUNTED, lambda values: measuring.instructions((PROGRAM, what, form, way, 1, 1, values)))
+        yield measuring.by_item(*COUNTED, lambda values: measuring.instructions((PROGRAM, what, sent, way, 1, 1, values)))
 
 
 def main():
@@ -39,27 +41,27 @@ def main():
     print(measuring.machine(), end="\n\n")
     runs, late = {}, {}
     for what in CHANNELS if not options.counts else ():
-        for form in ("u64", "box"):
+        for sent in SENT:
             for threads in THREADS:
-                def run(what=what, form=form, threads=threads):
-                    took, way = told(what, form, "threads", *threads, options.values)
-                    late.setdefault((what, form, threads), []).append(way)
+                def run(what=what, sent=sent, threads=threads):
+                    took, way = told(what, sent, "threads", *threads, options.values)
+                    late.setdefault((what, sent, threads), []).append(way)
                     return took / options.values
-                runs[what, form, threads] = run
+                runs[what, sent, threads] = run
     took = measuring.medians(options.rounds, runs)
     head, rows = ["A value", "instructions: one at a time", "all sent first"], []
     if not options.counts:
         head += [f"ns: {senders} x {receivers}" for senders, receivers in THREADS] + ["µs: 99th percentile of 4 x 16"]
-    for form in ("u64", "box"):
+    for sent in SENT:
         for what, name in CHANNELS.items():
-            row = [f"{name}, {form}", *counts(what, form)]
+            row = [f"{name}, {sent}", *counts(what, sent)]
             if not options.counts:
-                row += [took[what, form, it] for it in THREADS]
-                row.append(sorted(late[what, form, THREADS[-1]])[options.rounds // 2] / 1000)
+                row += [took[what, sent, it] for it in THREADS]
+                row.append(sorted(late[what, sent, THREADS[-1]])[options.rounds // 2] / 1000)
             rows.append(row)
         figures = {row[0]: row[1:] for row in rows}
-        ours, theirs = (figures[f"{CHANNELS[what]}, {form}"] for what in ("hazbultra", "crossbeam"))
-        rows.append([f"ours by crossbeam's, {form}", *(f"{one / two:.2f}" for one, two in zip(ours, theirs))])
+        ours, theirs = (figures[f"{CHANNELS[what]}, {sent}"] for what in ("hazbultra", "crossbeam"))
+        rows.append([f"ours by crossbeam's, {sent}", *(f"{one / two:.2f}" for one, two in zip(ours, theirs))])
     print(measuring.table(head, rows))
 
 

@@ -97,25 +97,26 @@ def caught(words, room, left):
 def tried(body, rooms):
     """Makes one change in a copy of the crate, and runs the test for it. Returns None if that test fails, else what is wrong.
 
-    If `what` is empty, nothing is changed, and the test has to pass.
+    The change puts the text `wrong` in place of `right` into a file. If `what` is empty, nothing is changed, and the test has
+    to pass.
     """
-    what, name, right, wrong, words = body
+    what, file, right, wrong, test = body
     room = rooms.get()
-    path = f"{room}/src/channel/{name}.rs"
+    path = f"{room}/src/channel/{file}.rs"
     try:
-        with open(path, encoding="utf-8") as file:
-            text = file.read()
-        with open(path, "w", encoding="utf-8") as file:
-            file.write(text.replace(right, wrong))
-        built = words.replace("test -q", "test -q --no-run", 1)
+        with open(path, encoding="utf-8") as opened:
+            text = opened.read()
+        with open(path, "w", encoding="utf-8") as opened:
+            opened.write(text.replace(right, wrong))
+        built = test.replace("test -q", "test -q --no-run", 1)
         if text.count(right) != 1 or caught(" ".join(built.split()[:5]), room, 300):
             return "BAD EDIT"
         # (these two tests take long, but always end)
-        left = 300 if words in (SEARCH, DROPS) else 20
-        return None if caught(words, room, left) == bool(what) else "NOT CAUGHT" if what else "FAILED"
+        left = 300 if test in (SEARCH, DROPS) else 20
+        return None if caught(test, room, left) == bool(what) else "NOT CAUGHT" if what else "FAILED"
     finally:
-        with open(path, "w", encoding="utf-8") as file:
-            file.write(text)
+        with open(path, "w", encoding="utf-8") as opened:
+            opened.write(text)
         rooms.put(room)
 
 

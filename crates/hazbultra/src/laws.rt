@@ -59,15 +59,10 @@ pub fn codes_have_their_numbers()
 pub fn sample_setups()
     ensures exchanges { plan_asked (asked 2 0 false true) Middle
         ≡ shaped_plan (record { fast = false; last = true }) 3 4 8 0 Bits }
-    ensures pairs { plan_asked (asked 2 5 false true) Middle
-        ≡ shaped_plan (record { fast = false; last = true }) 3 4 8 5 Middle }
     ensures let_in { refusal_of (asked 2 0 false true) ≡ None }
 
-    // With a fast path, or without a last object, 0 pairs are too few (36). A number that names no table is refused
-    // before that (32).
+    // With a fast path 0 pairs are too few (36).
     ensures no_pairs { refusal_of (asked 2 0 true true) ≡ Some 36 }
-    ensures no_object { refusal_of (asked 2 0 false false) ≡ Some 36 }
-    ensures no_table { refusal_of (asked 3 0 true true) ≡ Some 32 }
 {}
 
 /// What random words a consumer draws: samples. If a claim makes up to six accesses, they come from a generator. If a

@@ -26,7 +26,7 @@ Leads old (Offered p x r) new = (p < lane_count old) × OfferMeets old p x r new
 Leads old (Pushed p r) new = (p < lane_count old) × PushMeets old p r new × SameSize old new
 Leads old (Finished p r) new = (p < lane_count old) × FinishMeets old p r new × SameSize old new
 
--- a new pool of this size is in this state after these calls, each on a lane that it has
+-- these calls, the newest first, lead from a new pool of this size to this state. Each is on a lane of the pool
 abbrev pub HasMade : PoolSize → List Call → PoolState → Type 0
 HasMade size [] s = (lane_count s ≡ size.lanes) × (cell_count s ≡ size.cells) × IsAfter [] s
 HasMade size (c ∷ older) s = (was : PoolState) × (HasMade size older was × Leads was c s)
@@ -133,7 +133,8 @@ WasGivenBy k (Offered p x r ∷ older) = (r ≡ offer.Cell k) ⊎ WasGivenBy k o
 WasGivenBy k (Pushed p r ∷ older) = WasGivenBy k older
 WasGivenBy k (Finished p r ∷ older) = WasGivenBy k older
 
--- the answer of a call is the one that follows from the calls before it
+-- the answer r of a call follows from the calls before it. If the lane's stage refuses an offer or a finish, r is that
+-- refusal. Else an offer has the cell of the next fetch-add, or Full if there is none, and a finish has Ended
 abbrev pub IsAnswerBy : ℕ → Call → List Call → Type 0
 IsAnswerBy cells (Offered p x r) older =
     r ≡ unwrap_or (stage_offer_refusal (stage_by p older))

@@ -1,5 +1,5 @@
--- For samples: three entries, and three lawful histories of a pool of one lane and one cell.
-use Rattle.std.specs.Prelude.{[], ◌^◌, ◌∷◌}
+-- For samples: an entry, and three lawful histories of a pool of one lane and one cell.
+use Rattle.std.specs.Prelude.{[], ◌∷◌}
 use Rattle.mb_cells.specs.Types.{END, Head, Item, Link}
 use Rattle.mb_cells.specs.Memory.{History}
 use Rattle.mb_cells.specs.LanePath.{Entry, fetch, store}
@@ -8,14 +8,6 @@ use Rattle.mb_cells.specs.Met.{load}
 -- the item 8, in cell 0
 abbrev pub eight : Entry
 eight = record { cell = 0; value = 8 }
-
--- the item 9, in cell 1
-abbrev pub nine : Entry
-nine = record { cell = 1; value = 9 }
-
--- an item of more than 64 bits
-abbrev pub too_wide : Entry
-too_wide = record { cell = 0; value = 2 ^ 64 }
 
 -- producer 0 made the fetch-add that gave it cell 0 for the item 8, and nothing else was done
 abbrev pub one_taken : History

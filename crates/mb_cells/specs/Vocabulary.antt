@@ -18,4 +18,4 @@ pub use Rattle.mb_cells.specs.Block.{IsMemoryOf, IsStateOf, address_of, block_af
 pub use Rattle.mb_cells.specs.Calls.{FinishKeeps, FinishMeets, LoadGoesOn, OfferKeeps, OfferMeets, PushMeets}
 pub use Rattle.mb_cells.specs.CallLists.{Call, HasMade, IsAnswerBy, Leads, WasGivenBy, fetch_adds_by, fetch_adds_by_offer, has_ended_by, is_end, item_by, item_by_offer, lane_end_by, link_by_push}
 pub use Rattle.mb_cells.specs.CallLists.{linked_cells_by, put_list_by, stage_by, stage_by_finish, stage_by_offer, stage_by_push, Offered, Pushed, Finished}
-pub use Rattle.mb_cells.specs.Samples.{eight, nine, one_put, one_read, one_taken, too_wide}
+pub use Rattle.mb_cells.specs.Samples.{eight, one_put, one_read, one_taken}

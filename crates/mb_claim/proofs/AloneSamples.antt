@@ -1,14 +1,14 @@
 -- Samples with a last object alone: which of them are lawful.
 use Rattle.std.proofs.Common.{◌≡◌, ℕ, [], ◌∷◌, refl, inl, inr, arith}
 use Rattle.mb_quorum.specs.Unary.{unary_table}
-use Rattle.mb_claim.specs.{LastObject, Won, Lost, part_on, IsClaimPrefixFrom, IsClaimPart, IsClaimLawful}
+use Rattle.mb_deciding.specs.Vocabulary.{IsInWords}
+use Rattle.mb_claim.specs.{Last, Exchange, LastObject, Won, Lost, part_on, IsClaimPrefixFrom, IsClaimPart, IsClaimLawful}
 use Rattle.mb_claim.specs.{two_alone, exchanged_once_each, both_found_empty}
 use Rattle.mb_claim.proofs.LawfulSamples.{known}
 use Rattle.mb_claim.proofs.ObjectHistories.{turns_at}
-use Rattle.mb_claim.proofs.ShapedSamples.{found_word, put_word}
 
 -- consumer 0 finds the word empty and wins
-pub alone_won : IsClaimPrefixFrom (unary_table 2) 0 (LastObject ∷ []) 0 0 (part_on 0 0 exchanged_once_each) Won
+alone_won : IsClaimPrefixFrom (unary_table 2) 0 (LastObject ∷ []) 0 0 (part_on 0 0 exchanged_once_each) Won
 alone_won =
     inr (inl (record {
       turns = turns_at 0 (part_on 0 0 exchanged_once_each);
@@ -19,7 +19,7 @@ alone_won =
     }))
 
 -- consumer 1 finds consumer 0's number, and loses to it
-pub alone_lost :
+alone_lost :
     IsClaimPrefixFrom (unary_table 2) 1 (LastObject ∷ []) 0 1 (part_on 1 0 exchanged_once_each) (Lost 0)
 alone_lost =
     inr (inl (record {
@@ -33,6 +33,14 @@ alone_lost =
 -- what consumer c did on cell k in `exchanged_once_each` belongs to its claim
 abbrev IsAlonePart : ℕ → ℕ → Type 0
 IsAlonePart c k = IsClaimPart two_alone c k (part_on c k exchanged_once_each)
+
+-- what the second exchange finds, and its random word, are below 2 ^ 64
+found_word : IsInWords (record { act = Exchange Last 2 1; word = 0 })
+found_word = ((omega arith, tt), (omega arith))
+
+-- what the first exchange finds and stores, and its random word, are below 2 ^ 64
+put_word : IsInWords (record { act = Exchange Last 1 0; word = 0 })
+put_word = ((omega arith, omega arith), (omega arith))
 
 -- `exchanged_once_each` is lawful
 pub alone_lawful : IsClaimLawful two_alone exchanged_once_each

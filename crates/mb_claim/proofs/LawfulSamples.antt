@@ -1,4 +1,4 @@
--- Two samples that are lawful. In one, consumer 0 wins and consumer 1 loses. In the other, both are undecided.
+-- The sample in which consumer 0 wins and consumer 1 loses is lawful.
 use Rattle.std.proofs.Common.{◌≡◌, ◌≢◌, ℕ, Bool, true, false, cond, eqb, Some, None, List, [], ◌∷◌, refl, subst₂, inl}
 use Rattle.std.proofs.Common.{inr, arith}
 use Rattle.std.specs.List.{cons_option}
@@ -6,8 +6,8 @@ use Rattle.std.proofs.lemmas.Bool.{eqb-true}
 use Rattle.mb_quorum.specs.Unary.{unary_table}
 use Rattle.mb_deciding.specs.Vocabulary.{IsInWords, answer, IsPath}
 use Rattle.mb_claim.specs.{Value, Proposal, Quorum, Load, Store, Conciliator, Ratifier, ObjectTurn}
-use Rattle.mb_claim.specs.{ClaimAccess, Won, Lost, Undecided, part_on, turns_on, IsClaimPrefixFrom, IsClaimPart}
-use Rattle.mb_claim.specs.{IsClaimLawful, pairs_of, two_consumers, won_and_lost, both_undecided}
+use Rattle.mb_claim.specs.{ClaimAccess, Won, Lost, part_on, turns_on, IsClaimPrefixFrom, IsClaimPart}
+use Rattle.mb_claim.specs.{IsClaimLawful, pairs_of, two_consumers, won_and_lost}
 use Rattle.mb_claim.proofs.ObjectHistories.{turns_at}
 
 -- ---- what holds of each access holds of each consumer and cell with a part
@@ -37,7 +37,7 @@ pub conciliated : IsPath (unary_table 2) (Conciliator 2) 0 (turns_at 0 (part_on 
 conciliated = (refl, (refl, (0, (omega arith), inr (refl, (refl, (omega arith), tt)))))
 
 -- consumer 0 has loaded no 1 in the ratifier, so its own number is decided
-pub ratified : IsPath (unary_table 2) Ratifier 0 (turns_at 1 (part_on 0 0 won_and_lost)) (answer true 0)
+ratified : IsPath (unary_table 2) Ratifier 0 (turns_at 1 (part_on 0 0 won_and_lost)) (answer true 0)
 ratified = (Store Proposal 1 ∷ Load Proposal 0 ∷ Store (Quorum 0) 1 ∷ [], inl (refl, refl), refl)
 
 -- in `won_and_lost` consumer 0 has won
@@ -79,16 +79,16 @@ lost =
           })),
     ))
 
--- what consumer c did on cell k in the history h belongs to its claim
-abbrev IsMine : List ClaimAccess → ℕ → ℕ → Type 0
-IsMine h c k = IsClaimPart two_consumers c k (part_on c k h)
+-- what consumer c did on cell k in `won_and_lost` belongs to its claim
+abbrev IsMine : ℕ → ℕ → Type 0
+IsMine c k = IsClaimPart two_consumers c k (part_on c k won_and_lost)
 
 -- in `won_and_lost` what consumer 0 did on cell 0 belongs to its claim
-first : IsMine won_and_lost 0 0
+first : IsMine 0 0
 first = ((omega arith), (omega arith), (Won, won))
 
 -- in `won_and_lost` what consumer 1 did on cell 0 belongs to its claim
-second : IsMine won_and_lost 1 0
+second : IsMine 1 0
 second = ((omega arith), (omega arith), (Lost 0, lost))
 
 -- the numbers in a turn that loads 0 are below 2 ^ 64
@@ -125,7 +125,7 @@ lawful =
         ),
       );
       parts = λ c k some.
-          known (IsMine won_and_lost) c k won_and_lost (
+          known IsMine c k won_and_lost (
             second,
             (
               second,
@@ -134,146 +134,6 @@ lawful =
                 (
                   second,
                   (first, (first, (first, (first, (first, (first, (first, tt))))))),
-                ),
-              ),
-            ),
-          ) some;
-    }
-
--- ---- both are undecided
--- consumer 0 leaves each object undecided with its own number, so its claim is undecided
-pub first_undecided : IsClaimPrefixFrom (unary_table 2) 0 (pairs_of 2 1) 0 0 (part_on 0 0 both_undecided) Undecided
-first_undecided =
-    let xs : List ObjectTurn = part_on 0 0 both_undecided in
-    inr (inr (
-      0,
-      turns_on 1 (turns_at 1 xs),
-      record {
-        turns = turns_at 0 xs;
-        all = refl;
-        path =
-            (refl, (refl, (0, (omega arith), inr (refl, (refl, (omega arith), tt)))));
-      },
-      inr (inr (
-        0,
-        [],
-        record {
-          turns = turns_at 1 xs;
-          all = refl;
-          path = (
-            1,
-            refl,
-            refl,
-            (omega arith),
-            (Store Proposal 1 ∷ Load Proposal 0 ∷ Store (Quorum 0) 1 ∷ [], inl (refl, refl), refl),
-          );
-        },
-        (refl, refl),
-      )),
-    ))
-
--- consumer 1 leaves each object undecided with its own number, so its claim is undecided
-pub second_undecided : IsClaimPrefixFrom (unary_table 2) 1 (pairs_of 2 1) 0 1 (part_on 1 0 both_undecided) Undecided
-second_undecided =
-    let xs : List ObjectTurn = part_on 1 0 both_undecided in
-    inr (inr (
-      1,
-      turns_on 1 (turns_at 1 xs),
-      record {
-        turns = turns_at 0 xs;
-        all = refl;
-        path =
-            (refl, (refl, (0, (omega arith), inr (refl, (refl, (omega arith), tt)))));
-      },
-      inr (inr (
-        1,
-        [],
-        record {
-          turns = turns_at 1 xs;
-          all = refl;
-          path = (
-            0,
-            refl,
-            refl,
-            (omega arith),
-            (Store Proposal 2 ∷ Load Proposal 0 ∷ Store (Quorum 1) 1 ∷ [], inl (refl, refl), refl),
-          );
-        },
-        (refl, refl),
-      )),
-    ))
-
--- in `both_undecided` what consumer 0 did on cell 0 belongs to its claim
-zero_here : IsMine both_undecided 0 0
-zero_here = ((omega arith), (omega arith), (Undecided, first_undecided))
-
--- in `both_undecided` what consumer 1 did on cell 0 belongs to its claim
-one_here : IsMine both_undecided 1 0
-one_here = ((omega arith), (omega arith), (Undecided, second_undecided))
-
--- the numbers in a turn that loads 2 are below 2 ^ 64
-two_word : IsInWords (record { act = Load Value 2; word = 0 })
-two_word = ((omega arith, tt), (omega arith))
-
--- the numbers in a turn that stores 2 are below 2 ^ 64
-two_put : IsInWords (record { act = Store Value 2; word = 0 })
-two_put = ((tt, omega arith), (omega arith))
-
--- `both_undecided` is lawful
-pub undecided_lawful : IsClaimLawful two_consumers both_undecided
-undecided_lawful =
-    record {
-      memory = (refl, (tt, (refl, (tt, (refl, (refl, (tt, (tt, (refl, (tt, (refl, (tt, (refl, (refl, tt))))))))))))));
-      words = (
-        one_word,
-        (
-          two_put,
-          (
-            one_word,
-            (
-              one_put,
-              (
-                zero_word,
-                (
-                  zero_word,
-                  (
-                    one_put,
-                    (
-                      one_put,
-                      (two_word, (two_put, (one_word, (one_put, (zero_word, (zero_word, tt)))))),
-                    ),
-                  ),
-                ),
-              ),
-            ),
-          ),
-        ),
-      );
-      parts = λ c k some.
-          known (IsMine both_undecided) c k both_undecided (
-            one_here,
-            (
-              one_here,
-              (
-                zero_here,
-                (
-                  zero_here,
-                  (
-                    one_here,
-                    (
-                      zero_here,
-                      (
-                        one_here,
-                        (
-                          zero_here,
-                          (
-                            one_here,
-                            (one_here, (zero_here, (zero_here, (one_here, (zero_here, tt))))),
-                          ),
-                        ),
-                      ),
-                    ),
-                  ),
                 ),
               ),
             ),

@@ -3,7 +3,7 @@ use Rattle.std.proofs.Common.{ℕ, List, sym, subst}
 use Rattle.mb_quorum.specs.Vocabulary.{QuorumTable}
 use Rattle.mb_deciding.specs.declared.access.Op.TheVariants as to
 use Rattle.mb_deciding.specs.Vocabulary.{ReadsLast, CanFind, act_of, seen_by}
-pub use Rattle.mb_deciding.proofs.Acts.{acts-append, acts-turns_for, has_turns, turns_for}
+pub use Rattle.mb_deciding.proofs.Acts.{acts-turns_for, has_turns, turns_for}
 pub use Rattle.mb_deciding.proofs.Courses.{reads_seen}
 use Rattle.mb_claim.specs.{Access, Op, Pc}
 

@@ -31,32 +31,9 @@ won_and_lost =
     (Quorum 0) 1) ∷ access_at 1 0 (Load Value 1)
     ∷ won_alone
 
--- both consumers find the conciliator's word empty. Later, in the ratifier, each finds the other's announcement
-abbrev pub both_undecided : List ClaimAccess
-both_undecided =
-    access_at 1 1 (Load (Quorum 0) 1) ∷ access_at 1 1 (Store Proposal 2)
-    ∷ access_at 0 1 (Load (Quorum 1) 1) ∷ access_at 0 1 (Store Proposal 1)
-    ∷ access_at 1 1 (Load Proposal 0) ∷ access_at 0 1 (Load Proposal 0)
-    ∷ access_at 1 1 (Store (Quorum 1) 1) ∷ access_at 0 1 (Store (Quorum 0) 1)
-    ∷ access_at 1 0 (Load Value 2) ∷ access_at 1 0 (Store Value 2)
-    ∷ access_at 0 0 (Load Value 1) ∷ access_at 0 0 (Store Value 1)
-    ∷ access_at 1 0 (Load Value 0) ∷ access_at 0 0 (Load Value 0) ∷ []
-
--- ---- histories that are not lawful
+-- ---- a history that is not lawful
 -- consumer 0 has its output from object 0, and begins there again
 abbrev pub begun_again : List ClaimAccess
 begun_again =
     access_at 0 0 (Load Value 1)
     ∷ access_at 0 0 (Load Value 1) ∷ access_at 0 0 (Store Value 1) ∷ access_at 0 0 (Load Value 0) ∷ []
-
--- consumer 0 goes on after it has won
-abbrev pub after_winning : List ClaimAccess
-after_winning = access_at 0 1 (Load (Quorum 1) 0) ∷ won_alone
-
--- consumer 1 has the value 0 from object 0, but goes to object 1 with its own number
-abbrev pub own_number_again : List ClaimAccess
-own_number_again = access_at 1 1 (Store (Quorum 1) 1) ∷ access_at 1 0 (Load Value 1) ∷ won_alone
-
--- a third consumer comes, although there are two
-abbrev pub of_a_stranger : List ClaimAccess
-of_a_stranger = access_at 2 0 (Load Value 0) ∷ []

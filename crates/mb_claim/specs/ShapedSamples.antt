@@ -1,18 +1,18 @@
--- Histories of claims on one cell, for two consumers over the unary table: with one pair and a fast path or a last
--- object, or with a last object alone. Some are lawful, and some are not.
-use Rattle.std.specs.Prelude.{ℕ, Bool, List, [], ◌∷◌}
+-- Histories of claims on one cell, for two consumers over the unary table: with a fast path and one pair, and with a last
+-- object alone. Some are lawful, and some are not.
+use Rattle.std.specs.Prelude.{true, false, List, [], ◌∷◌}
 use Rattle.mb_quorum.specs.Unary.{unary_table}
 use Rattle.mb_claim.specs.AllClaims.{Claims, claims_of}
 use Rattle.mb_claim.specs.ObjectTypes.{Value, Proposal, Quorum, Last, Load, Store, Exchange}
 use Rattle.mb_claim.specs.Types.{ClaimAccess}
 use Rattle.mb_claim.specs.Rows.{row_of, with_last}
-use Rattle.mb_claim.specs.Samples.{access_at, both_undecided}
-
--- the claims of two consumers on one cell of this shape, with one pair over the unary table
-abbrev pub two_with : Bool → Bool → Claims
-two_with fast last = claims_of (unary_table 2) (row_of (record { fast = fast; last = last }) 2 1) 1
+use Rattle.mb_claim.specs.Samples.{access_at}
 
 -- ---- a fast path
+-- the claims of two consumers on one cell with a fast path and one pair over the unary table
+abbrev pub two_with_fast : Claims
+two_with_fast = claims_of (unary_table 2) (row_of (record { fast = true; last = false }) 2 1) 1
+
 -- lawful: consumer 0 comes alone, and the first ratifier decides
 abbrev pub won_at_once : List ClaimAccess
 won_at_once =
@@ -31,28 +31,6 @@ lost_at_second =
 -- not lawful: consumer 0 begins with the conciliator
 abbrev pub skip_both_ratifiers : List ClaimAccess
 skip_both_ratifiers = access_at 0 2 (Load Value 0) ∷ []
-
--- not lawful: consumer 1 goes to the conciliator after the first ratifier alone
-abbrev pub skip_one_ratifier : List ClaimAccess
-skip_one_ratifier =
-    access_at 1 2 (Load Value 0) ∷ access_at 1 0 (Load (Quorum 1) 1) ∷ access_at 1 0 (Load Proposal 1)
-    ∷ access_at 1 0 (Store (Quorum 1) 1) ∷ won_at_once
-
--- ---- a last object
--- lawful: the pair has left both undecided. Consumer 0 comes first to the last object and wins, and consumer 1 finds
--- consumer 0's number
-abbrev pub last_decides : List ClaimAccess
-last_decides =
-    access_at 1 2 (Exchange Last 2 1) ∷ access_at 0 2 (Exchange Last 1 0) ∷ both_undecided
-
--- not lawful: both consumers find the last object's word empty
-abbrev pub last_found_empty_twice : List ClaimAccess
-last_found_empty_twice =
-    access_at 1 2 (Exchange Last 2 0) ∷ access_at 0 2 (Exchange Last 1 0) ∷ both_undecided
-
--- not lawful: consumer 0 begins with the last object
-abbrev pub last_comes_first : List ClaimAccess
-last_comes_first = access_at 0 2 (Exchange Last 1 0) ∷ []
 
 -- ---- a last object alone
 -- the claims of two consumers on one cell with a last object alone

@@ -69,7 +69,8 @@ pub fn claims_have_one_next_op()
     turns_name_the_next_op();
 }
 
-/// The next access of a claim's place, with the value that the history leaves in its word, may follow the history.
+/// Suppose that after the lawful history h the claim of consumer c on cell k is at the place pc, and that op comes next
+/// there. Then the access with this op, which finds what h leaves in its word, may follow h.
 pub fn places_make_steps()
     ensures follows { (cs : Claims) (c k object : ℕ) (pc : Pc) (op : Op) (word : ℕ)
         (h : List ClaimAccess)

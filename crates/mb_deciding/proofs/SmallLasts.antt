@@ -5,7 +5,7 @@ use Rattle.std.specs.List.{cons_option}
 use Rattle.std.proofs.lemmas.Bool.{ne_eqb}
 use Rattle.mb_quorum.specs.Unary.{unary_table}
 use Rattle.mb_deciding.specs.{Last, Load, Store, Exchange, Access, LastObject, part, IsPath, IsPrefix, answer}
-use Rattle.mb_deciding.specs.{IsObjectLawful, small_last, first_decides, found_empty_twice, stored_over, exchange_by, turn}
+use Rattle.mb_deciding.specs.{IsObjectLawful, small_last, first_decides, found_empty_twice, exchange_by, turn}
 use Rattle.mb_deciding.specs.{loaded_then_stored}
 use Rattle.mb_deciding.proofs.Lasts.{last_alone, same_value}
 
@@ -39,14 +39,10 @@ first_lawful =
       parts = first_part;
     }
 
--- ---- histories that are not lawful
+-- ---- a history that is not lawful
 -- `found_empty_twice` is not lawful: in a lawful history the second exchange finds the value of the first
 pub empty_refused : IsObjectLawful small_last found_empty_twice → ⊥
 empty_refused l = let none : ◌≡◌ {A = ℕ} 0 1 = l.memory.0 in absurd (omega (arith, none))
-
--- `stored_over` is not lawful: in a lawful history the third exchange, too, finds the value of the first
-pub over_refused : IsObjectLawful small_last stored_over → ⊥
-over_refused l = let other : ◌≡◌ {A = ℕ} 2 1 = l.memory.0 in absurd (omega (arith, other))
 
 -- ---- turns that are not a prefix of a path
 -- a load and then a store are not a prefix of a path, since a path is one exchange
@@ -55,27 +51,7 @@ torn_refused p =
     let x = (last_alone (unary_table 3) 0 (turn 0 (Load Last 0) ∷ []) (turn 0 (Store Last 1)) p).1 in
     let same : Store Last 1 ≡ Exchange Last 1 x.0 = x.1 in cc
 
--- an exchange for another value than the input is not a prefix of a path
-pub another_refused : IsPrefix (unary_table 3) LastObject 0 (turn 0 (Exchange Last 2 0) ∷ []) → ⊥
-another_refused p =
-    let x = (last_alone (unary_table 3) 0 [] (turn 0 (Exchange Last 2 0)) p).1 in
-    let same : Exchange Last 2 0 ≡ Exchange Last 1 x.0 = x.1 in
-    let put : ◌≡◌ {A = ℕ} 2 1 = cc in absurd (omega (arith, put))
-
--- two exchanges are not a prefix of a path
-pub twice_refused : IsPrefix (unary_table 3) LastObject 0
-    (turn 0 (Exchange Last 1 1) ∷ turn 0 (Exchange Last 1 0) ∷ []) → ⊥
-twice_refused p =
-    let none : turn 0 (Exchange Last 1 0) ∷ [] ≡ [] =
-    (last_alone (unary_table 3) 0 (turn 0 (Exchange Last 1 0) ∷ []) (turn 0 (Exchange Last 1 1)) p).0 in cc
-
--- ---- whole paths and their outputs
--- if a process with input 1 found the word empty, its output is its input, decided
-pub own_output :
-    (d : Bool) (u : ℕ) → IsPath (unary_table 3) LastObject 1 (turn 0 (Exchange Last 2 0) ∷ []) (answer d u)
-    → (d ≡ true) × (u ≡ 1)
-own_output d u path = (path.0, same_value 1 (turn 0 (Exchange Last 2 0)) u 1 path.1 (inl (refl, refl)))
-
+-- ---- a whole path and its output
 -- if a process with input 1 found the value 0 in the word, its output is that value, decided
 pub met_output :
     (d : Bool) (u : ℕ) → IsPath (unary_table 3) LastObject 1 (turn 0 (Exchange Last 2 1) ∷ []) (answer d u)

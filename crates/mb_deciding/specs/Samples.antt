@@ -73,10 +73,6 @@ first_decides = exchange_by 2 1 ∷ exchange_by 1 1 ∷ exchange_by 0 0 ∷ []
 abbrev pub found_empty_twice : List Access
 found_empty_twice = exchange_by 1 0 ∷ exchange_by 0 0 ∷ []
 
--- process 2 finds the value of process 1, which had found the word filled
-abbrev pub stored_over : List Access
-stored_over = exchange_by 2 2 ∷ exchange_by 1 1 ∷ exchange_by 0 0 ∷ []
-
 -- process 0 loads the word, and then stores in it by an access of its own
 abbrev pub loaded_then_stored : List Turn
 loaded_then_stored = turn 0 (Store Last 1) ∷ turn 0 (Load Last 0) ∷ []

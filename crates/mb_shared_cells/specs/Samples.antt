@@ -4,7 +4,6 @@ use Rattle.mb_cells.specs.Vocabulary.{History, pool_size}
 use Rattle.mb_cells.specs.declared.access.Process.TheVariants.{Producer}
 use Rattle.mb_cells.specs.declared.size.PoolSize.{PoolSize}
 use Rattle.mb_shared_cells.specs.Rule.{IsCellsState}
-use Rattle.mb_shared_cells.specs.Views.{first_view}
 use Rattle.mb_shared_cells.specs.declared.views.View.{View}
 use Rattle.mb_shared_cells.specs.declared.views.View.TheVariants.{Hub, Member}
 
@@ -15,10 +14,6 @@ one_by_one = pool_size 1 1
 -- the words and views are a state of the table of that size
 abbrev pub IsStateOfOne : List ℕ → List View → Type 0
 IsStateOfOne words views = IsCellsState one_by_one words views
-
--- the view of a hub that has issued no number
-abbrev pub new_hub : View
-new_hub = first_view one_by_one
 
 -- the view of a hub that has issued lane 0, whose seat was not returned
 abbrev pub hub_of_one : View

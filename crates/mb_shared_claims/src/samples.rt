@@ -1,10 +1,10 @@
 //! Samples of the rule of the table: what it admits, and what it refuses. The functions compute nothing: their
 //! contracts are the samples.
-ghost use Rattle.std.specs.Prelude.{ℕ, ◌≡◌, ◌+◌, ◌<◌, List, None, [], ◌∷◌, replicate, slice_index};
+ghost use Rattle.std.specs.Prelude.{ℕ, ◌≡◌, ◌+◌, ◌<◌, List, [], ◌∷◌, replicate, slice_index};
 ghost use Rattle.mb_claim.specs.Vocabulary.{IsWordIn, address_in};
-ghost use Rattle.mb_shared_claims.specs.{Handing, IsClaimsState, Reg, Standing, TableSize, View, claims_of_size, roster};
+ghost use Rattle.mb_shared_claims.specs.{Handing, IsClaimsState, Reg, TableSize, claims_of_size, roster};
 
-use crate::laws::{states_have_one_history, steps_keep_states};
+use crate::laws::steps_keep_states;
 use mb_claim::steps::accesses_lengthen_one_part;
 
 /// Words and views of a table of any size that are a state.
@@ -19,25 +19,10 @@ pub fn words_and_views_agree()
 /// Words and views of a table of any size that are no state.
 pub fn words_and_views_disagree()
     // A word of cell 0 holds 1, and nobody stored that: no number was issued.
-    ensures made_up { (k : TableSize) (o : ℕ) (reg : Reg) (words : List ℕ) → 0 < k.cells
+    ensures { (k : TableSize) (o : ℕ) (reg : Reg) (words : List ℕ) → 0 < k.cells
         → IsWordIn (claims_of_size k) o reg
         → slice_index words (address_in (claims_of_size k) 0 o reg) ≡ 1
         → IsClaimsState k words (Handing k [] ∷ []) → ⊥ }
-
-    // The roster counts a number that was not issued, or does not count one that was.
-    ensures not_given { (k : TableSize) (words : List ℕ) → slice_index words (roster k) ≡ 1
-        → IsClaimsState k words (Handing k [] ∷ []) → ⊥ }
-    ensures not_drawn { (k : TableSize) (words : List ℕ) (views : List View)
-        → slice_index words (roster k) ≡ 0
-        → IsClaimsState k words (Handing k (None ∷ []) ∷ views) → ⊥ }
-
-    // The seat of an issued number is nowhere, or an issued number has two seats.
-    ensures gone { (k : TableSize) (words : List ℕ)
-        → IsClaimsState k words (Handing k (None ∷ []) ∷ []) → ⊥ }
-    ensures twice { (k : TableSize) (words : List ℕ)
-        → IsClaimsState k words
-        (Handing k (None ∷ []) ∷ Standing k 0 [] ∷ Standing k 0 [] ∷ []) → ⊥ }
 {
     accesses_lengthen_one_part();
-    states_have_one_history();
 }

@@ -1,13 +1,12 @@
--- Small reports that agree with an assignment.
-use Rattle.std.proofs.Common.{◌≡◌, ◌↔◌, ℕ, zero, suc, ◌<◌, ◌≤◌, true, false, List, [], ◌∷◌, length, Some, refl, inl, inr, arith}
+-- A small report that agrees with an assignment.
+use Rattle.std.proofs.Common.{◌≡◌, ◌↔◌, ℕ, zero, suc, ◌<◌, ◌≤◌, true, false, List, [], ◌∷◌, length, Some, refl, inl, arith}
 use Rattle.mb_world.specs.declared.report.Note.TheVariants.{Took, Lost}
 use Rattle.mb_world.specs.Theorem.{DiaryView, HasCompeted, HasLostTo, HasTaken, IsLossTo, is_begun, ledger, notes, share}
 use Rattle.mb_world.specs.Agreement.{AgreesWith}
-use Rattle.mb_world.specs.ReportSamples.{diary_of, first_to, taken_and_lost, to_nobody, won_not_loaded}
+use Rattle.mb_world.specs.ReportSamples.{diary_of, first_to, taken_and_lost}
 use Rattle.mb_world.proofs.ReportLists.{no_diary, not_noted}
 use Rattle.mb_world.proofs.OneLaneReports.{agrees_on_lane}
 
--- ---- consumer 0 has taken the item, and consumer 1 has lost it
 -- the diaries of the report `taken_and_lost`. The lemmas below are parts of `AgreesOnLane` for it, or help with one
 abbrev taken_diaries : List DiaryView
 taken_diaries = diary_of 0 (Took 5 ∷ []) false ∷ diary_of 1 (Lost 0 ∷ []) false ∷ []
@@ -82,70 +81,5 @@ taken_agrees = agrees_on_lane (first_to 0) (5 ∷ []) [] taken_diaries (record {
   losses = taken_losses;
   within = taken_within;
   begun_within = taken_begun;
-  left = refl;
-})
-
--- ---- consumer 1 has lost the item to 0, which has not loaded it yet
--- the diaries of the report `won_not_loaded`. The lemmas below are parts of `AgreesOnLane` for it, or help with one
-abbrev won_diaries : List DiaryView
-won_diaries = diary_of 0 [] true ∷ diary_of 1 (Lost 0 ∷ []) false ∷ []
-
--- nobody has taken the item
-won_taken : (c j : ℕ) → c < 2 → HasTaken c 0 j won_not_loaded → ⊥
-won_taken zero j less h = let e = h.1 in cc
-won_taken (suc zero) zero less h = let e = h.1 in cc
-won_taken (suc zero) (suc j) less h = let e = h.1 in cc
-won_taken (suc (suc c)) j less h = omega (arith, less)
-
--- each loss of the item names consumer 0
-won_loser : (d v : ℕ) → HasLostTo d v 0 0 won_not_loaded → v ≡ 0
-won_loser zero v e = absurd (cc)
-won_loser (suc zero) v e = cc
-won_loser (suc (suc d)) v e =
-    absurd (not_noted (suc (suc d)) 0 0 won_not_loaded (Lost v)
-    (no_diary (suc (suc d)) (5 ∷ []) (5 ∷ []) won_diaries (omega arith)) e)
-
--- `IsLossTo` holds of each loss, although the item is given to nobody
-won_losses : (c w j : ℕ) → c < 2 → HasLostTo c w 0 j won_not_loaded → IsLossTo to_nobody c w 0 j won_not_loaded
-won_losses zero w j less e = absurd (cc)
-won_losses (suc zero) zero zero less e = record {
-  another = λ f. cc;
-  competed = inr (refl, refl);
-  only = won_loser;
-  assigned = inr refl;
-}
-won_losses (suc zero) (suc w) zero less e = absurd (cc)
-won_losses (suc zero) w (suc j) less e = absurd (cc)
-won_losses (suc (suc c)) w j less e = absurd (omega (arith, less))
-
--- each ledger is the share of its consumer: both are empty
-won_ledgers : (c : ℕ) → c < 2 → ledger c 0 won_not_loaded ≡ share to_nobody c 0 won_not_loaded
-won_ledgers zero less = refl
-won_ledgers (suc zero) less = refl
-won_ledgers (suc (suc c)) less = absurd (omega (arith, less))
-
--- no consumer has more notes than items were put
-won_within : (c : ℕ) → c < 2 → length (notes c 0 won_not_loaded) ≤ 1
-won_within zero less = omega arith
-won_within (suc zero) less = omega arith
-won_within (suc (suc c)) less = absurd (omega (arith, less))
-
--- a begun claim is on the item
-won_begun : (c : ℕ) → c < 2 → is_begun c 0 won_not_loaded ≡ true → length (notes c 0 won_not_loaded) < 1
-won_begun zero less e = omega arith
-won_begun (suc zero) less e = absurd (cc)
-won_begun (suc (suc c)) less e = absurd (omega (arith, less))
-
--- the report agrees with the assignment that gives nothing to anybody
-pub won_agrees : AgreesWith to_nobody won_not_loaded
-won_agrees = agrees_on_lane to_nobody (5 ∷ []) (5 ∷ []) won_diaries (record {
-  elsewhere = λ p j. refl;
-  known = λ c j e. absurd (cc);
-  taken = λ c j less. ((λ h. absurd (won_taken c j less h)), (λ e. absurd (cc)));
-  ledgers = won_ledgers;
-  competitors = λ c j less e. absurd (cc);
-  losses = won_losses;
-  within = won_within;
-  begun_within = won_begun;
   left = refl;
 })

@@ -1,17 +1,12 @@
--- The report of the small world of the samples, and diaries and reports that are not of that world.
-use Rattle.std.proofs.Common.{◌≡◌, ◌+◌, ◌*◌, ◌<◌, ℕ, zero, suc, true, false, List, [], ◌∷◌, Option, Some, None, refl, sym, ap, subst, inl, inr, arith}
+-- The report of the small world of the samples, and a diary and a report that are not of that world.
+use Rattle.std.proofs.Common.{◌≡◌, ◌+◌, ◌*◌, ◌<◌, ℕ, zero, suc, true, List, [], ◌∷◌, Option, Some, None, refl, sym, ap, subst, inl, inr, arith}
 use Rattle.std.specs.Prelude.{slice_get}
-use Rattle.mb_claim.specs.declared.access.Stage.TheVariants as stage
-use Rattle.mb_world.specs.declared.report.Note.{Note}
-use Rattle.mb_world.specs.declared.report.Note.TheVariants.{Lost, Took, Undecided}
-use Rattle.mb_world.specs.Imports.{Gave, Head, History, IsClaimPrefix, Item, Link, ObjectTurn, PoolAccess, Reader, Stage, part}
-use Rattle.mb_world.specs.Fitting.{EndsAs, HasRead, parts_of}
+use Rattle.mb_world.specs.declared.report.Note.TheVariants.{Lost, Took}
+use Rattle.mb_world.specs.Imports.{Head, History, Item, Link, PoolAccess, Reader, part}
+use Rattle.mb_world.specs.Fitting.{HasRead}
 use Rattle.mb_world.specs.Theorem.{DiaryView, LaneView}
 use Rattle.mb_world.specs.Reporting.{IsDiaryOf, IsReportOf, lane_view}
-use Rattle.mb_world.specs.PathSamples.{first_step, two_cells}
-use Rattle.mb_world.specs.WorldSamples.{IsNoDiary, IsNoReport, all_histories, all_reported, claim_missing, diary_with, item_missing, loss_unnoted}
-use Rattle.mb_world.specs.WorldSamples.{loss_taken, lost_steps, nothing_told, report_with, two_by_two, unwon_taken}
-use Rattle.mb_world.proofs.Positions.{has_at, reverse_at}
+use Rattle.mb_world.specs.WorldSamples.{all_histories, all_reported, diary_with, item_missing, loss_taken, two_by_two}
 
 -- ---- the report of the small world
 -- what the report has of each lane is what the histories say of it
@@ -46,18 +41,10 @@ module _ (took : IsDiaryOf two_by_two 0 0 all_histories (diary_with 0 0 (Took 5 
   pub all_told : IsReportOf two_by_two all_histories all_reported
   all_told = record { lanes_count = refl; diaries_count = refl; lane = lanes_told; diary = told }
 
--- ---- diaries that are not of the small world
+-- ---- a diary that is not of the small world
 -- what consumer 1 has loaded
 abbrev reads : History
 reads = part (Reader 1) all_histories.pool
-
--- consumer 1 was given cell 0
-given_first : Gave 0 reads
-given_first = inr (inr (inl (refl, λ e. cc)))
-
--- consumer 1 was given cell 1
-given_second : Gave 1 reads
-given_second = inr (inl (refl, λ e. cc))
 
 -- consumer 1 has loaded no item
 no_item : (k v : ℕ) → HasRead (Item k) v reads → ⊥
@@ -68,48 +55,11 @@ no_item k v (a, inr (inr (inl e)), w, _) =
     let f : Head 0 ≡ Item k = subst (λ (b : PoolAccess). b.word ≡ Item k) (sym e) w in cc
 no_item k v (a, inr (inr (inr none)), w, _) = none
 
--- a diary whose one note says that consumer 1 took an item is no diary of consumer 1
-not_taken : (p x : ℕ) → IsNoDiary 1 p (diary_with 1 p (Took x ∷ []))
-not_taken p x d = let n = d.notes 0 (Took x) refl in no_item n.0 x n.2.1
-
 -- a diary that says that consumer 1 took the item 5 is no diary of consumer 1
-pub no_loss_taken : IsNoDiary 1 0 loss_taken
-no_loss_taken = not_taken 0 5
+pub no_loss_taken : IsDiaryOf two_by_two 1 0 all_histories loss_taken → ⊥
+no_loss_taken d = let n = d.notes 0 (Took 5) refl in no_item n.0 5 n.2.1
 
--- a diary that says that consumer 1 took the item 6 is no diary of consumer 1
-pub no_unwon_taken : IsNoDiary 1 1 unwon_taken
-no_unwon_taken = not_taken 1 6
-
--- a diary of consumer 0 is not one of consumer 1
-pub no_other : IsNoDiary 1 0 (diary_with 0 0 (Lost 0 ∷ []))
-no_other d = let e : 0 ≡ 1 = d.consumer in omega (arith, e)
-
--- the claim of consumer 1 on cell 0 is lost, so its diary on lane 0 must have a note
-pub no_silence : IsClaimPrefix two_cells 1 lost_steps (stage.Lost 0) → IsNoDiary 1 0 loss_unnoted
-no_silence lost d =
-    let at = has_at d.cells 0 (d.met.all 0 given_first (inl refl)) in
-    let within : at.0 < 0 = d.all at.0 0 (Lost 0) (reverse_at d.cells at.0 0 at.1) lost in
-    omega (arith, within)
-
--- the claim of consumer 1 on cell 1 goes on, so no note says how it has ended: the same steps have one stage
-no_end : (one_stage : (xs : List ObjectTurn) (s r : Stage) → IsClaimPrefix two_cells 1 xs s
-    → IsClaimPrefix two_cells 1 xs r → s ≡ r)
-    → IsClaimPrefix two_cells 1 (first_step ∷ []) stage.Going → (n : Note)
-    → EndsAs two_cells 1 1 n (parts_of 1 all_histories) → ⊥
-no_end one_stage goes (Took x) end = let e = one_stage (first_step ∷ []) stage.Going stage.Won goes end.0 in cc
-no_end one_stage goes (Lost w) end = let e = one_stage (first_step ∷ []) stage.Going (stage.Lost w) goes end in cc
-no_end one_stage goes Undecided end = let e = one_stage (first_step ∷ []) stage.Going stage.Undecided goes end in cc
-
--- the claim of consumer 1 on cell 1 has an access and goes on, so the diary on lane 1 must say that a claim is begun
-pub no_rest : (one_stage : (xs : List ObjectTurn) (s r : Stage) → IsClaimPrefix two_cells 1 xs s
-    → IsClaimPrefix two_cells 1 xs r → s ≡ r)
-    → IsClaimPrefix two_cells 1 (first_step ∷ []) stage.Going → IsNoDiary 1 1 claim_missing
-no_rest one_stage goes d =
-    let e : false ≡ true =
-    d.begun.1 (1, d.met.all 1 given_second (inl refl), (λ none. cc), λ n end. no_end one_stage goes n end) in
-    cc
-
--- ---- reports that are not of the small world
+-- ---- a report that is not of the small world
 -- the items left on a lane, or none if there is no lane
 abbrev left_of : Option LaneView → List ℕ
 left_of None = []
@@ -120,22 +70,5 @@ not_empty : (x : ℕ) (xs : List ℕ) → [] ≡ x ∷ xs → ⊥
 not_empty x xs e = cc
 
 -- the item left on lane 1 may not be left out
-pub no_item_missing : IsNoReport item_missing
+pub no_item_missing : IsReportOf two_by_two all_histories item_missing → ⊥
 no_item_missing r = not_empty 6 [] (ap left_of (r.lane 1 (omega arith)))
-
--- the diary, if there is one, or else the diary `other`
-abbrev diary_or : DiaryView → Option DiaryView → DiaryView
-diary_or other None = other
-diary_or other (Some d) = d
-
--- the note of consumer 1 on the item that it lost may not be left out
-pub no_note_skipped : IsClaimPrefix two_cells 1 lost_steps (stage.Lost 0)
-    → IsNoReport (report_with (6 ∷ []) loss_unnoted)
-no_note_skipped lost r =
-    let there = r.diary 1 0 (omega arith) (omega arith) in
-    let same : loss_unnoted ≡ there.0 = ap (diary_or loss_unnoted) there.1 in
-    no_silence lost (subst (λ (d : DiaryView). IsDiaryOf two_by_two 1 0 all_histories d) (sym same) there.2)
-
--- the report has two lanes, so it is not empty
-pub not_nothing : IsNoReport nothing_told
-not_nothing r = let e : 0 ≡ 2 = r.lanes_count in omega (arith, e)

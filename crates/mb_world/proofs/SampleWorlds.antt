@@ -1,29 +1,21 @@
 -- The small world of the samples: its history is lawful, access by access.
-use Rattle.std.proofs.Common.{◌≡◌, ◌<◌, ◌^◌, ℕ, List, [], ◌∷◌, ◌++◌, take, drop, Option, Some, None, refl, sym, subst, inl, inr, arith}
+use Rattle.std.proofs.Common.{◌≡◌, ◌<◌, ◌^◌, ℕ, false, List, [], ◌∷◌, ◌++◌, drop, Option, Some, None, refl, sym, subst, inl, inr, arith}
 use Rattle.std.specs.Prelude.{map}
 use Rattle.mb_cells.specs.LanePath.{fetch, store}
 use Rattle.mb_cells.specs.Memory.{ReadsLast}
 use Rattle.mb_cells.specs.Place.{LaneIsAt, Phase, Ended, Offered, Open, Stored}
 use Rattle.mb_deciding.specs.declared.access.Act.TheVariants as act
-use Rattle.mb_deciding.specs.declared.access.Reg.TheVariants.{Quorum}
+use Rattle.mb_deciding.specs.declared.access.Reg.TheVariants.{Value}
+use Rattle.mb_deciding.specs.Vocabulary.{answer}
 use Rattle.mb_claim.specs.declared.access.Stage.TheVariants as stage
-use Rattle.mb_claim.specs.Samples.{both_undecided}
 use Rattle.mb_world.specs.declared.report.Note.{Note}
 use Rattle.mb_world.specs.declared.report.Note.TheVariants.{Lost, Took}
-use Rattle.mb_world.specs.Imports.{ActFits, END, Entry, Head, History, IsClaimPrefix, IsLanePrefix, Item, Link, ObjectTurn, PoolAccess, Producer, Stage, claim_part, part}
+use Rattle.mb_world.specs.Imports.{ActFits, END, Entry, Head, History, IsClaimPrefix, IsLanePrefix, Item, Link, ObjectTurn, PoolAccess, Producer, Stage, part}
 use Rattle.mb_world.specs.World.{ToCells, WorldAccess, WorldHistory, lane_part, pool_accesses}
 use Rattle.mb_world.specs.Worlds.{ConsumerAdds, IsTrueTo, IsWorldLawful}
 use Rattle.mb_world.specs.ConsumerPath.{ConsumerPath, begins, claim_step, ends, finds, goes, item_load, link_load, note_of, takes, waits}
 use Rattle.mb_world.specs.PathSamples.{first_step, two_cells, won_last, won_steps}
 use Rattle.mb_world.specs.WorldSamples.{all_done, both_put, first_found, first_lost, first_taken, first_won, five, lost_steps, offered, one_put, second_begun, second_met, six, stores, two_by_two}
-
--- the steps of consumer 1 in the history of mb_claim's samples that leaves both consumers undecided
-abbrev pub undecided_steps : List ObjectTurn
-undecided_steps = claim_part 1 0 both_undecided
-
--- the last of the steps in `undecided_steps`
-abbrev undecided_last : ObjectTurn
-undecided_last = record { object = 1; turn = record { act = act.Load (Quorum 0) 1; word = 0 } }
 
 -- consumer c makes these steps (the newest first) on cell k after the history, and each is true to memory
 abbrev pub AreTrueTo : ℕ → ℕ → List ObjectTurn → WorldHistory → Type 0
@@ -45,7 +37,6 @@ pub record Laws : Type 0 where
       → IsClaimPrefix two_cells c xs stage.Going
   pub won : IsClaimPrefix two_cells 0 won_steps stage.Won
   pub lost : IsClaimPrefix two_cells 1 lost_steps (stage.Lost 0)
-  pub undecided : IsClaimPrefix two_cells 1 undecided_steps stage.Undecided
 
 module _ (laws : Laws) where
   -- consumer c makes these steps (the newest first) of its claim on cell k after the history: it stays lawful,
@@ -86,17 +77,19 @@ module _ (laws : Laws) where
   pub second_fresh : IsClaimPrefix two_cells 1 [] stage.Going
   second_fresh = none_yet 1 lost_steps (stage.Lost 0) laws.lost (λ e. cc)
 
-  -- if a claim of consumer 1 goes on after some steps, it goes on after the first of them
-  first_of : (xs : List ObjectTurn) (x : ObjectTurn) → IsClaimPrefix two_cells 1 (xs ++ x ∷ []) stage.Going
-      → IsClaimPrefix two_cells 1 (x ∷ []) stage.Going
-  first_of [] x q = q
-  first_of (y ∷ xs) x q = first_of xs x (laws.going 1 y (xs ++ x ∷ []) stage.Going q)
-
-  -- a claim of consumer 1 goes on after its first step
-  pub second_goes : IsClaimPrefix two_cells 1 (first_step ∷ []) stage.Going
+  -- a claim of consumer 1 goes on after its first step, a load of 0 from the conciliator's word
+  second_goes : IsClaimPrefix two_cells 1 (first_step ∷ []) stage.Going
   second_goes =
-      first_of (take 5 (drop 1 undecided_steps)) first_step
-      (laws.going 1 undecided_last (drop 1 undecided_steps) stage.Undecided laws.undecided)
+      inl (record {
+        turns = first_step.turn ∷ [];
+        all = refl;
+        going = (
+          record { act = act.Load Value 2; word = 0 } ∷ record { act = act.Store Value 2; word = 0 } ∷ [],
+          (λ e. cc),
+          (answer false 1, (refl, (refl, (0, (omega arith), inr (refl, (refl, (omega arith), tt)))))),
+        );
+        is = refl;
+      })
 
   -- ---- both items are put
   -- after the fetch-add for the item 5 the history is lawful. In this section each history adds one access

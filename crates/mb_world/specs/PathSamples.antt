@@ -5,7 +5,7 @@ use Rattle.mb_deciding.specs.declared.access.Act.TheVariants as act
 use Rattle.mb_deciding.specs.declared.access.Reg.TheVariants.{Quorum, Value}
 use Rattle.mb_claim.specs.Samples.{two_consumers, won_alone}
 use Rattle.mb_claim.specs.AllClaims.{claims_of}
-use Rattle.mb_world.specs.Imports.{Claims, Head, Item, Link, ObjectTurn, PoolAccess, load}
+use Rattle.mb_world.specs.Imports.{Claims, Head, Item, ObjectTurn, load}
 use Rattle.mb_world.specs.Fitting.{Parts}
 
 -- the claims of the two consumers on the two cells
@@ -24,23 +24,6 @@ won_steps = map (λ a. a.step) won_alone
 abbrev pub won_last : ObjectTurn
 won_last = record { object = 1; turn = record { act = act.Load (Quorum 1) 0; word = 0 } }
 
--- ---- parts that do not fit
--- the parts of a consumer that has made a step of a claim on each cell, and no load
-abbrev pub claimed_unseen : Parts
-claimed_unseen = record { reads = []; claimed = λ k. first_step ∷ [] }
-
--- the parts of a consumer that makes this load after the head led to cell 0, without a claim there
-abbrev pub read_on : PoolAccess → Parts
-read_on a = record { reads = a ∷ load 0 (Head 0) 1 ∷ []; claimed = λ k. [] }
-
--- the parts of a consumer that loads the item of cell 0 without a claim there
+-- parts that do not fit: the consumer loads the item of cell 0 without a claim there
 abbrev pub read_unclaimed : Parts
-read_unclaimed = read_on (load 0 (Item 0) 5)
-
--- the parts of a consumer that loads the link of cell 0 without a claim there
-abbrev pub passed_without_claim : Parts
-passed_without_claim = read_on (load 0 (Link 0) 0)
-
--- the parts of a consumer that loads the head again after it led to cell 0
-abbrev pub read_head_again : Parts
-read_head_again = read_on (load 0 (Head 0) 1)
+read_unclaimed = record { reads = load 0 (Item 0) 5 ∷ load 0 (Head 0) 1 ∷ []; claimed = λ k. [] }

@@ -18,18 +18,10 @@ first_to c zero zero = Some c
 first_to c zero (suc j) = None
 first_to c (suc p) j = None
 
--- nothing is given to anybody
-abbrev pub to_nobody : Assignment
-to_nobody p j = None
-
 -- ---- reports with which an assignment agrees
 -- consumer 0 has taken the item, and consumer 1 has lost it to 0
 abbrev pub taken_and_lost : ReportView
 taken_and_lost = report_of (5 ∷ []) [] (diary_of 0 (Took 5 ∷ []) false ∷ diary_of 1 (Lost 0 ∷ []) false ∷ [])
-
--- consumer 1 has lost the item to 0, which has not loaded it yet
-abbrev pub won_not_loaded : ReportView
-won_not_loaded = report_of (5 ∷ []) (5 ∷ []) (diary_of 0 [] true ∷ diary_of 1 (Lost 0 ∷ []) false ∷ [])
 
 -- the diary of consumer c on lane p, in a report of two lanes
 abbrev pub diary_on : ℕ → ℕ → List Note → DiaryView
@@ -54,22 +46,9 @@ abbrev pub diaries_by_lane : ReportView
 diaries_by_lane = two_lanes
     (diary_on 0 0 (Took 5 ∷ []) ∷ diary_on 1 0 (Lost 0 ∷ []) ∷ diary_on 0 1 (Took 6 ∷ []) ∷ diary_on 1 1 [] ∷ [])
 
--- the item that was lost to consumer 2 was taken by consumer 0
-abbrev pub lost_to_a_third : ReportView
-lost_to_a_third = report_of (5 ∷ []) []
-    (diary_of 0 (Took 5 ∷ []) false ∷ diary_of 1 (Lost 2 ∷ []) false ∷ diary_of 2 [] true ∷ [])
-
--- both items are left, and are reported in another order than they were put
-abbrev pub left_out_of_order : ReportView
-left_out_of_order = report_of (10 ∷ 11 ∷ []) (11 ∷ 10 ∷ []) (diary_of 0 [] false ∷ [])
-
 -- an item that nobody competed for is not reported as left
 abbrev pub left_omitted : ReportView
 left_omitted = report_of (10 ∷ []) [] (diary_of 0 [] false ∷ [])
-
--- an item is taken, and reported as left all the same
-abbrev pub left_and_taken : ReportView
-left_and_taken = report_of (10 ∷ []) (10 ∷ []) (diary_of 0 (Took 10 ∷ []) false ∷ [])
 
 -- two consumers have taken one item
 abbrev pub two_takers : ReportView
@@ -78,14 +57,6 @@ two_takers = report_of (5 ∷ []) [] (diary_of 0 (Took 5 ∷ []) false ∷ diary
 -- another value was taken than was put
 abbrev pub other_value : ReportView
 other_value = report_of (5 ∷ []) [] (diary_of 0 (Took 6 ∷ []) false ∷ [])
-
--- a consumer has lost to itself
-abbrev pub lost_to_itself : ReportView
-lost_to_itself = report_of (5 ∷ []) (5 ∷ []) (diary_of 0 (Lost 0 ∷ []) false ∷ diary_of 1 [] true ∷ [])
-
--- a consumer has lost to one that did not compete
-abbrev pub winner_stayed_away : ReportView
-winner_stayed_away = report_of (5 ∷ []) (5 ∷ []) (diary_of 0 (Lost 1 ∷ []) false ∷ diary_of 1 [] false ∷ [])
 
 -- two consumers have lost one item to each other
 abbrev pub lost_to_each_other : ReportView

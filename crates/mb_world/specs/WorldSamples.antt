@@ -1,5 +1,5 @@
 -- A world of two lanes, two consumers and two cells, with one pair of objects over the unary table. Below are what was
--- done in it, its report, and reports and diaries that are not its own.
+-- done in it, its report, and a report and a diary that are not its own.
 use Rattle.std.specs.Prelude.{ℕ, true, false, List, [], ◌∷◌, ◌++◌, map}
 use Rattle.mb_cells.specs.LanePath.{fetch, store}
 use Rattle.mb_claim.specs.Samples.{won_and_lost}
@@ -7,7 +7,6 @@ use Rattle.mb_world.specs.declared.report.Note.{Note, TheVariants.Took, TheVaria
 use Rattle.mb_world.specs.Imports.{END, Entry, Head, Item, Link, ObjectTurn, Word, claim_part}
 use Rattle.mb_world.specs.Plan.{Histories, Plan}
 use Rattle.mb_world.specs.Theorem.{DiaryView, ReportView}
-use Rattle.mb_world.specs.Reporting.{IsDiaryOf, IsReportOf}
 use Rattle.mb_world.specs.World.{ToCells, WorldAccess, WorldHistory, histories_of}
 use Rattle.mb_world.specs.ConsumerPath.{claim_step, item_load, link_load}
 use Rattle.mb_world.specs.PathSamples.{first_step, two_cells, won_steps}
@@ -107,35 +106,11 @@ report_with left d = record {
 abbrev pub all_reported : ReportView
 all_reported = report_with (6 ∷ []) (diary_with 1 0 (Lost 0 ∷ []))
 
--- ---- reports and diaries that are not of this world
--- this is no report of what was done in all
-abbrev pub IsNoReport : ReportView → Type 0
-IsNoReport r = IsReportOf two_by_two all_histories r → ⊥
-
--- this is no diary of consumer c on lane p
-abbrev pub IsNoDiary : ℕ → ℕ → DiaryView → Type 0
-IsNoDiary c p d = IsDiaryOf two_by_two c p all_histories d → ⊥
-
+-- ---- a report and a diary that are not of this world
 -- an item that nobody took is left out of the items left
 abbrev pub item_missing : ReportView
 item_missing = report_with [] (diary_with 1 0 (Lost 0 ∷ []))
 
--- a report with nothing in it
-abbrev pub nothing_told : ReportView
-nothing_told = record { lanes = []; diaries = [] }
-
--- consumer 1 has no note on the item that it has lost
-abbrev pub loss_unnoted : DiaryView
-loss_unnoted = diary_with 1 0 []
-
 -- consumer 1 says that it took the item that it has lost
 abbrev pub loss_taken : DiaryView
 loss_taken = diary_with 1 0 (Took 5 ∷ [])
-
--- consumer 1 says that it took the item on which its claim goes on
-abbrev pub unwon_taken : DiaryView
-unwon_taken = diary_with 1 1 (Took 6 ∷ [])
-
--- consumer 1 does not say that its claim is begun
-abbrev pub claim_missing : DiaryView
-claim_missing = diary_with 1 1 []

@@ -1,4 +1,4 @@
-//! Short names for events of a world, and for the answers: the results of these events.
+//! The events by which an item is put and taken in a world, with their answers: the results of these events.
 
 use crate::compare::same;
 use mb_cells::{Look, Offer, Push};
@@ -8,20 +8,16 @@ use mb_world::{Answer, Event, World};
 use std::alloc::Allocator;
 use std::process::Abort;
 
-pub(crate) fn offer(lane: u64, item: u64) -> Event {
+fn offer(lane: u64, item: u64) -> Event {
     Event::Offer { lane, item }
 }
 
-pub(crate) fn push(lane: u64) -> Event {
+fn push(lane: u64) -> Event {
     Event::Push { lane }
 }
 
-pub(crate) fn finish(lane: u64) -> Event {
-    Event::Finish { lane }
-}
-
 /// A step of a consumer on a lane, with the random word 0.
-pub(crate) fn step(consumer: u64, lane: u64) -> Event {
+fn step(consumer: u64, lane: u64) -> Event {
     Event::Step {
         consumer,
         lane,
@@ -30,27 +26,27 @@ pub(crate) fn step(consumer: u64, lane: u64) -> Event {
 }
 
 /// The answer that an offered item gets cell `k`.
-pub(crate) fn cell(k: u32) -> Answer {
+fn cell(k: u32) -> Answer {
     Answer::Offered(Offer::Cell(k))
 }
 
 /// The answer that the item of cell `k` is stored.
-pub(crate) fn item(k: u32) -> Answer {
+fn item(k: u32) -> Answer {
     Answer::Pushed(Push::Item(k))
 }
 
 /// The answer that cell `k` is linked.
-pub(crate) fn link(k: u32) -> Answer {
+fn link(k: u32) -> Answer {
     Answer::Pushed(Push::Link(k))
 }
 
 /// The answer that a consumer finds cell `k`.
-pub(crate) fn found(k: u32) -> Answer {
+fn found(k: u32) -> Answer {
     Answer::Looked(Look::Cell(k))
 }
 
 /// The answer that a claim on cell `k` loads a word, and then has this stage.
-pub(crate) fn loads(k: u32, object: u32, reg: Reg, value: u64, stage: Stage) -> Answer {
+fn loads(k: u32, object: u32, reg: Reg, value: u64, stage: Stage) -> Answer {
     Answer::Claimed {
         cell: k,
         object,
@@ -60,7 +56,7 @@ pub(crate) fn loads(k: u32, object: u32, reg: Reg, value: u64, stage: Stage) -> 
 }
 
 /// The answer that a claim on cell `k` stores in a word, and then has this stage.
-pub(crate) fn stores(k: u32, object: u32, reg: Reg, value: u64, stage: Stage) -> Answer {
+fn stores(k: u32, object: u32, reg: Reg, value: u64, stage: Stage) -> Answer {
     Answer::Claimed {
         cell: k,
         object,
@@ -70,7 +66,7 @@ pub(crate) fn stores(k: u32, object: u32, reg: Reg, value: u64, stage: Stage) ->
 }
 
 /// The answer that a consumer takes the item of cell `k`.
-pub(crate) fn took(k: u32, x: u64) -> Answer {
+fn took(k: u32, x: u64) -> Answer {
     Answer::Took { cell: k, item: x }
 }
 
@@ -83,4 +79,20 @@ pub(crate) fn make<A: Allocator + Drop>(
     for (event, answer) in events {
         same(rt, &world.apply(*event), answer);
     }
+}
+
+/// The events by which an item is put into the first lane and taken by the only consumer, with their answers.
+pub(crate) fn take_seven() -> [(Event, Answer); 10] {
+    [
+        (offer(0, 7), cell(0)),
+        (push(0), item(0)),
+        (push(0), link(0)),
+        (step(0, 0), found(0)),
+        (step(0, 0), loads(0, 0, Reg::Value, 0, Stage::Going)),
+        (step(0, 0), stores(0, 0, Reg::Value, 1, Stage::Going)),
+        (step(0, 0), loads(0, 0, Reg::Value, 1, Stage::Going)),
+        (step(0, 0), loads(0, 1, Reg::Proposal, 0, Stage::Going)),
+        (step(0, 0), stores(0, 1, Reg::Proposal, 1, Stage::Won)),
+        (step(0, 0), took(0, 7)),
+    ]
 }

@@ -1,14 +1,14 @@
 //! Claims of consumers on one cell: worked examples.
 
 use crate::compare::{same, same_at};
-use mb_claim::{BadLayout, Claim, ClaimEntry, ClaimRun, Layout, PlayFault, Stage, play};
+use mb_claim::{BadLayout, Claim, ClaimEntry, Layout, PlayFault, Stage, play};
 use mb_deciding::{Act, Op, Reg};
 use mb_quorum::TableName;
 use std::alloc::Allocator;
 use std::process::Abort;
 
 /// The entry of a consumer's load that found this value.
-pub(crate) fn loaded(consumer: u32, object: u32, reg: Reg, value: u64) -> ClaimEntry {
+fn loaded(consumer: u32, object: u32, reg: Reg, value: u64) -> ClaimEntry {
     ClaimEntry::Access {
         consumer,
         object,
@@ -17,7 +17,7 @@ pub(crate) fn loaded(consumer: u32, object: u32, reg: Reg, value: u64) -> ClaimE
 }
 
 /// The entry of a consumer's store of this value.
-pub(crate) fn stored(consumer: u32, object: u32, reg: Reg, value: u64) -> ClaimEntry {
+fn stored(consumer: u32, object: u32, reg: Reg, value: u64) -> ClaimEntry {
     ClaimEntry::Access {
         consumer,
         object,
@@ -115,10 +115,8 @@ fn layouts_out_of_range(rt: HostRuntime) {
     for (c, k, name, want) in &[
         (0, 0, TableName::Bits, BadLayout::BadConsumers),
         (65, 1, TableName::Middle, BadLayout::BadConsumers),
-        (65, 9, TableName::Unary, BadLayout::BadConsumers),
         (1, 0, TableName::Bits, BadLayout::BadRounds),
         (16, 9, TableName::Bits, BadLayout::BadRounds),
-        (64, 9, TableName::Middle, BadLayout::BadRounds),
     ] {
         same_at(&rt, &Layout::new(*c, *k, *name), &Err(*want), &(c, k));
     }
@@ -178,37 +176,12 @@ fn first_access_of_a_claim(rt: HostRuntime) {
     );
 }
 
-#[test]
-fn one_wins_and_the_other_loses(rt: HostRuntime) {
-    let layout = one_pair(&rt, 2);
-    let (entries, stages) = (won_and_lost(), [Stage::Won, Stage::Lost(0)]);
-    plays(&rt, &layout, &WON_AND_LOST, (0, &entries), &stages);
-}
-
 // Fourteen steps in this order leave both claims undecided.
 #[test]
 fn both_stay_undecided(rt: HostRuntime) {
     let layout = one_pair(&rt, 2);
     let steps = steps_of([0, 1, 0, 0, 1, 1, 0, 1, 0, 1, 0, 0, 1, 1]);
     plays(&rt, &layout, &steps, (14, &[]), &[Stage::Undecided; 2]);
-}
-
-// The conciliator's first attempt has the random word 1 and does not store. The second has 0 and stores.
-#[test]
-fn the_first_random_word_does_not_store(rt: HostRuntime) {
-    let layout = one_pair(&rt, 1);
-    same(&rt, &layout.max_steps(), &6);
-    let steps = [(0, 1), (0, 0), (0, 0), (0, 0), (0, 0), (0, 0), (0, 0)];
-    let entries = [
-        loaded(0, 0, Reg::Value, 0),
-        loaded(0, 0, Reg::Value, 0),
-        stored(0, 0, Reg::Value, 1),
-        loaded(0, 0, Reg::Value, 1),
-        loaded(0, 1, Reg::Proposal, 0),
-        stored(0, 1, Reg::Proposal, 1),
-        ClaimEntry::Done { consumer: 0 },
-    ];
-    plays(&rt, &layout, &steps, (0, &entries), &[Stage::Won]);
 }
 
 // If a step is of a consumer other than the two, the run is refused. The fault has the position of the first such step.
@@ -219,51 +192,8 @@ fn a_step_of_no_consumer(rt: HostRuntime) {
         ([2, 0, 0, 0, 0, 0, 0, 0, 1, 1, 1, 1, 0], 0),
         ([0, 0, 0, 0, 0, 0, 0, 1, 1, 2, 1, 1, 0], 9),
         ([0, 0, 0, 0, 0, 0, 0, 1, 1, 1, 1, 0, 2], 12),
-        ([0, 0, 0, 0, 0, 0, 0, 1, 1, 2, 1, 1, 3], 9),
     ] {
         let fault = play(rt.alloc(), &layout, &steps_of(*consumers)).err();
         same(&rt, &fault, &Some(PlayFault::NoConsumer(*place)));
     }
-}
-
-/// More steps than a run of all claims takes, so that most of them are `Done`.
-const STEPS: usize = 2048;
-
-/// `STEPS` steps of sixteen consumers in order, with the random word 0.
-fn steps_in_order() -> [(u64, u64); STEPS] {
-    let mut steps = [(0, 0); STEPS];
-    for place in 0..STEPS {
-        steps[place] = (place as u64 % 16, 0);
-    }
-    steps
-}
-
-/// Ends the test unless the run has `STEPS` entries and these stages, and exactly the steps from `first` on are of claims
-/// that had ended before. Sixteen consumers step in order.
-fn are_done_from<A: Allocator + Drop>(
-    rt: &impl Abort,
-    run: &ClaimRun<A>,
-    stages: &[Stage],
-    first: usize,
-) {
-    let told = (run.entries.len(), run.stages.as_slice());
-    same(rt, &told, &(STEPS, stages));
-    for (place, entry) in run.entries.iter().enumerate() {
-        let done = ClaimEntry::Done {
-            consumer: (place % 16) as u32,
-        };
-        same(rt, &(*entry == done), &(first <= place));
-    }
-}
-
-// There are many more steps than accesses. Each claim ends, and its later steps make no access.
-#[test]
-fn two_thousand_steps_of_sixteen_consumers(rt: HostRuntime) {
-    let layout = Layout::new(16, 8, TableName::Bits).expect(&rt, "no layout");
-    let run = play(rt.alloc(), &layout, &steps_in_order()).expect(&rt, "no run");
-    // All find the conciliator's word empty, and the last to store there wins.
-    let mut stages = [Stage::Lost(15); 16];
-    stages[15] = Stage::Won;
-    // Each makes 3 accesses to the conciliator, and 4 + 1 + 1 + 4 to the ratifier.
-    are_done_from(&rt, &run, &stages, 16 * 13);
 }

@@ -1,21 +1,8 @@
 //! Schedules of one conciliator.
 
 use crate::compare::same;
-use crate::entries::{are_done_from, ending, last_turn, loaded, shows, stored};
+use crate::entries::{ending, loaded, shows, stored};
 use mb_deciding::{Entry, Fault, Out, Reg, conciliate};
-
-// The last attempt of a process stores, also on a random word on which the earlier ones do not.
-#[test]
-fn last_turn_stores(rt: HostRuntime) {
-    for turns in &[
-        [(0, 3), (0, 3), (0, 3), (0, 3), (0, 3)],
-        // The random words of the store and of the load after it do not count.
-        [(0, 3), (0, 7), (0, 3), (0, 0), (0, u64::MAX)],
-    ] {
-        let returned = conciliate(rt.alloc(), 2, &[0], turns);
-        assert!(rt; shows(&rt, returned, &last_turn(), &[Some(Out::undecided(0))]));
-    }
-}
 
 #[test]
 fn two_stores_leave_two_values(rt: HostRuntime) {
@@ -50,9 +37,8 @@ fn one_value(rt: HostRuntime) {
 }
 
 /// Numbers of values, inputs and turns, and why they are refused.
-static REASONS: [(u64, &[u64], &[(u64, u64)], Fault); 4] = [
+static REASONS: [(u64, &[u64], &[(u64, u64)], Fault); 3] = [
     (0, &[5], &[(9, 0)], Fault::BadValues),
-    (65, &[], &[], Fault::BadValues),
     (2, &[0, 2], &[], Fault::BadInput(1)),
     (2, &[0], &[(1, 0)], Fault::NoSuchProcess(0)),
 ];
@@ -71,25 +57,4 @@ fn first_reason_refuses(rt: HostRuntime) {
 #[test]
 fn nobody_makes_no_turn(rt: HostRuntime) {
     assert!(rt; shows(&rt, conciliate(rt.alloc(), 17, &[], &[]), &[], &[]));
-}
-
-/// More turns than all processes take to their outputs, so that most of them are `Done`.
-const TURNS: usize = 2048;
-
-/// `TURNS` turns of sixteen processes in order, with the random word 0.
-fn turns_in_order() -> [(u64, u64); TURNS] {
-    let mut turns = [(0, 0); TURNS];
-    for place in 0..TURNS {
-        turns[place] = (place as u64 % 16, 0);
-    }
-    turns
-}
-
-// There are many more turns than accesses. Each process has its output, and its later turns make no access.
-#[test]
-fn two_thousand_turns_of_sixteen_processes(rt: HostRuntime) {
-    let inputs = [0, 1, 2, 3, 4, 5, 6, 7, 8, 9, 10, 11, 12, 13, 14, 15];
-    let trace = conciliate(rt.alloc(), 16, &inputs, &turns_in_order()).expect(&rt, "no trace");
-    // All find the word empty and store, and then all find what the last one stored.
-    are_done_from(&rt, &trace, TURNS, Out::undecided(15), 48);
 }

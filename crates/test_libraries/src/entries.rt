@@ -78,23 +78,3 @@ pub(crate) fn shows<A: Allocator + Drop>(
         }
     }
 }
-
-/// Ends the test unless the trace has this many entries, and each of sixteen processes this output, and exactly the turns
-/// from `first` on are of processes that had their output before. The processes have turns in order.
-pub(crate) fn are_done_from<A: Allocator + Drop>(
-    rt: &impl Abort,
-    trace: &Trace<A>,
-    turns: usize,
-    output: Out,
-    first: usize,
-) {
-    let outputs = [Some(output); 16];
-    let told = (trace.entries.len(), trace.outputs.as_slice());
-    same(rt, &told, &(turns, outputs.as_slice()));
-    for (place, entry) in trace.entries.iter().enumerate() {
-        let done = Entry::Done {
-            process: place % 16,
-        };
-        same(rt, &(*entry == done), &(first <= place));
-    }
-}

@@ -2,7 +2,7 @@
 ghost use Rattle.std.specs.Prelude.{⊤};
 
 use crate::compare::same;
-use mb_deciding::{Memory, Next, Op, Out, Pc, Reg};
+use mb_deciding::{Memory, Op, Out, Pc, Reg};
 use mb_quorum::{Bits, Quorums};
 
 /// The word of a last object.
@@ -27,23 +27,8 @@ impl Memory for Word {
     }
 }
 
-/// The access of a process with this input, and its output, by `next` and `after`. There is none if the input is no
-/// value of the table, or if the process goes on.
-fn by_parts(q: &Bits, word: &mut Word, input: u32) -> Option<(Op, Out)> {
-    if input >= q.values() {
-        return None;
-    }
-    let place = Pc::last(input);
-    let op = place.next(q);
-    let found = word.perform(0, op);
-    match place.after(q, found, 0) {
-        Next::Out(out) => Some((op, out)),
-        Next::Go(_) => None,
-    }
-}
-
-/// The output of a process with this input, by `step`. There is none if the input is no value of the table.
-fn at_once(q: &Bits, word: &mut Word, input: u32) -> Option<Out> {
+/// The output of a process with this input. There is none if the input is no value of the table.
+fn output(q: &Bits, word: &mut Word, input: u32) -> Option<Out> {
     if input >= q.values() {
         return None;
     }
@@ -54,31 +39,8 @@ fn at_once(q: &Bits, word: &mut Word, input: u32) -> Option<Out> {
 #[test]
 fn the_second_finds_the_value_of_the_first(rt: HostRuntime) {
     let q = Bits::new(2).expect(&rt, "no table");
-    for (first, second) in &[(0, 1), (1, 0), (1, 1)] {
-        let (first, second) = (*first, *second);
-        let mut word = Word { held: 0 };
-        let made = by_parts(&q, &mut word, first);
-        let found = by_parts(&q, &mut word, second);
-        let out = Out::decided(first);
-        let stored = u64::from(first) + 1;
-        let sought = u64::from(second) + 1;
-        same(
-            &rt,
-            &(made, found, word.held),
-            &(
-                Some((Op::Exchange(Reg::Last, stored), out)),
-                Some((Op::Exchange(Reg::Last, sought), out)),
-                stored,
-            ),
-        );
-    }
-}
-
-#[test]
-fn steps_give_the_same(rt: HostRuntime) {
-    let q = Bits::new(2).expect(&rt, "no table");
     let mut word = Word { held: 0 };
-    let outputs = (at_once(&q, &mut word, 1), at_once(&q, &mut word, 0));
+    let outputs = (output(&q, &mut word, 1), output(&q, &mut word, 0));
     same(
         &rt,
         &(outputs, word.held),

@@ -19,8 +19,6 @@ mod devices;
 #[cfg(test)]
 mod entries;
 #[cfg(test)]
-mod events;
-#[cfg(test)]
 mod last_objects;
 #[cfg(test)]
 mod mirrored;
@@ -28,8 +26,6 @@ mod mirrored;
 mod own_table;
 #[cfg(test)]
 mod pools;
-#[cfg(test)]
-mod ratifiers;
 #[cfg(test)]
 mod refused_memory;
 #[cfg(test)]
@@ -42,10 +38,6 @@ mod shapes;
 mod shared_cells;
 #[cfg(test)]
 mod shared_claims;
-#[cfg(test)]
-mod spoiled_words;
-#[cfg(test)]
-mod straight_claims;
 #[cfg(test)]
 mod straight_seats;
 #[cfg(test)]

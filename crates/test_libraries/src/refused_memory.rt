@@ -1,10 +1,9 @@
 //! Calls that run out of memory: the allocations of a call are refused one after the other, and in the end none is.
 
-use crate::answers::make;
+use crate::answers::{make, take_seven};
 use crate::claims::{WON_AND_LOST, is_played, one_pair, won_and_lost};
 use crate::compare::{same, same_at};
 use crate::entries::{last_turn, late_input, shows};
-use crate::events::take_seven;
 use crate::scripts::is_read;
 use crate::{cells, shared_cells, shared_claims};
 use mb_claim::Stage;

@@ -117,13 +117,6 @@ fn enroll_and_put<A: Allocator + Drop>(rt: &impl Abort, table: &SharedCells<A>, 
     table.take_reader(hub, reader);
 }
 
-#[test]
-fn one_lane_and_one_cell(rt: HostRuntime) {
-    let (table, mut hub) = new_table(&rt, rt.alloc(), 1, 1);
-    enroll_and_put(&rt, &table, &mut hub);
-    table.close(hub);
-}
-
 /// Whether the allocator serves a table of one lane and one cell, in which an item is then put and read.
 pub(crate) fn is_served<A: Allocator + Clone + Drop>(rt: &impl Abort, alloc: A) -> bool {
     match SharedCells::new(alloc, 1, 1) {
@@ -197,28 +190,6 @@ fn two_lanes_draw_from_one_table(rt: HostRuntime) {
     read_two(&rt, &table, &mut reader, 1, (20, 21));
     table.take_lane(&mut hub, one);
     table.take_lane(&mut hub, other);
-    table.take_reader(&mut hub, reader);
-    table.close(hub);
-}
-
-// The second item is stored and not linked. A reader finds the first alone.
-#[test]
-fn an_offered_item_is_not_put(rt: HostRuntime) {
-    let (table, mut hub) = new_table(&rt, rt.alloc(), 1, 2);
-    let mut lane = new_lane(&rt, &table, &mut hub);
-    put(&rt, &table, &mut lane, 5, 0);
-    let told = (table.offer(&mut lane, 6), table.push(&mut lane));
-    same(&rt, &told, &(Offer::Cell(1), Push::Item(1)));
-    table.take_lane(&mut hub, lane);
-    let mut reader = table.enroll_reader(&mut hub);
-    let Look::Cell(k) = table.look(&mut reader, Cursor::head(0)) else {
-        panic!(rt; "no cell")
-    };
-    let told = (
-        table.item(&mut reader, k),
-        table.look(&mut reader, Cursor::past(k)),
-    );
-    same(&rt, &told, &(5, Look::Nothing));
     table.take_reader(&mut hub, reader);
     table.close(hub);
 }
@@ -343,98 +314,4 @@ fn put_and_then_read<R: Abort + AllocGlobal + Threads + Sync>(rt: &R) {
 #[test]
 fn two_threads_put_a_hundred_each(rt: HostRuntime) {
     put_and_then_read(&rt);
-}
-
-/// How often a reader looks at a lane while its producer runs. It reads the rest afterwards.
-const LOOKS: u64 = 1_000_000;
-
-/// Two threads put a hundred items each, and two others read their lanes beside them. Returns whether all was read.
-fn put_and_read_beside<R: Abort + AllocGlobal + Threads + Sync>(rt: &R) -> bool {
-    let (table, mut hub) = new_table(rt, rt.alloc(), 2, 200);
-    let one = new_lane(rt, &table, &mut hub);
-    let other = new_lane(rt, &table, &mut hub);
-    let first = table.enroll_reader(&mut hub);
-    let second = table.enroll_reader(&mut hub);
-    let ((one, first, of_one), (other, second, of_other)) = join(
-        rt,
-        || -> (LaneSeat, ReaderSeat, Bookmark)
-            requires lane { one.table ≡ table }
-            requires reader { first.table ≡ table }
-            requires some { 0 < table.size.lanes }
-            ensures lane { result.0.table ≡ table }
-            ensures reader { result.1.table ≡ table }
-            ensures may { MayRead table.size.lanes (word_of result.2.cursor) result.1.part }
-        { put_beside(rt, &table, one, first, unread(0, 1000)) },
-        || -> (LaneSeat, ReaderSeat, Bookmark)
-            requires lane { other.table ≡ table }
-            requires reader { second.table ≡ table }
-            requires some { 1 < table.size.lanes }
-            ensures lane { result.0.table ≡ table }
-            ensures reader { result.1.table ≡ table }
-            ensures may { MayRead table.size.lanes (word_of result.2.cursor) result.1.part }
-        { put_beside(rt, &table, other, second, unread(1, 2000)) },
-    );
-    let (mut first, mut second) = (first, second);
-    let of_one = read_on(&table, &mut first, of_one, 101);
-    let of_other = read_on(&table, &mut second, of_other, 101);
-    table.take_lane(&mut hub, one);
-    table.take_lane(&mut hub, other);
-    table.take_reader(&mut hub, first);
-    table.take_reader(&mut hub, second);
-    table.close(hub);
-    are_whole(of_one, of_other)
-}
-
-/// One thread puts a hundred items, from the bookmark's next item on, while another reads them.
-fn put_beside<R: Threads + Sync, A: Allocator + Drop + Send + Sync>(
-    rt: &R,
-    table: &SharedCells<A>,
-    lane: LaneSeat,
-    reader: ReaderSeat,
-    from: Bookmark,
-) -> (LaneSeat, ReaderSeat, Bookmark)
-    requires lane { lane.table ≡ table.now }
-    requires reader { reader.table ≡ table.now }
-    requires may { MayRead table.now.size.lanes (word_of from.cursor) reader.part }
-    requires small { from.next < 1000000 }
-    ensures lane { result.0.table ≡ table.now }
-    ensures reader { result.1.table ≡ table.now }
-    ensures may { MayRead table.now.size.lanes (word_of result.2.cursor) result.1.part }
-{
-    let ((lane, _), (reader, at)) = join(
-        rt,
-        || -> (LaneSeat, u64)
-            requires lane { lane.table ≡ table.now }
-            requires small { from.next < 1000000 }
-            ensures { result.0.table ≡ table.entry.now }
-        { put_hundred(table, lane, from.next) },
-        || -> (ReaderSeat, Bookmark)
-            requires reader { reader.table ≡ table.now }
-            requires may { MayRead table.now.size.lanes (word_of from.cursor) reader.part }
-            ensures reader { result.0.table ≡ table.entry.now }
-            ensures may { MayRead table.entry.now.size.lanes (word_of result.1.cursor)
-                result.0.part }
-        { read_from(table, reader, from) },
-    );
-    (lane, reader, at)
-}
-
-/// Reads a lane on from the bookmark, by at most `LOOKS` looks, while its producer runs.
-fn read_from<A: Allocator + Drop>(
-    table: &SharedCells<A>,
-    mut reader: ReaderSeat,
-    from: Bookmark,
-) -> (ReaderSeat, Bookmark)
-    requires reader { reader.table ≡ table.now }
-    requires may { MayRead table.now.size.lanes (word_of from.cursor) reader.part }
-    ensures reader { result.0.table ≡ table.now }
-    ensures may { MayRead table.now.size.lanes (word_of result.1.cursor) result.0.part }
-{
-    let at = read_on(table, &mut reader, from, LOOKS);
-    (reader, at)
-}
-
-#[test]
-fn two_readers_run_beside(rt: HostRuntime) {
-    assert!(rt; put_and_read_beside(&rt));
 }

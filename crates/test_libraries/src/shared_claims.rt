@@ -1,5 +1,5 @@
 //! Claims on words that threads share: the worked examples, and threads that step their claims at the same time.
-ghost use Rattle.std.specs.Prelude.{◌≡◌, ◌≢◌, ◌<◌, ◌≤◌, ◌++◌, ◌∷◌, ℕ, [], All, None, length};
+ghost use Rattle.std.specs.Prelude.{◌≡◌, ◌≢◌, ◌<◌, ◌≤◌, ◌++◌, ◌∷◌, ℕ, [], None, length};
 ghost use Rattle.mb_claim.specs.declared.access.Stage.TheVariants.{Going};
 ghost use Rattle.mb_claim.specs.Vocabulary.{IsClaimIn, claim_stage, consumer_of, part_on};
 ghost use Rattle.mb_claim.specs.declared.layout.TheConstants.{MAX_LARGE_CELLS};
@@ -7,20 +7,16 @@ ghost use Rattle.mb_shared_claims.specs.Vocabulary.{name_of};
 
 use crate::claims::one_pair;
 use crate::compare::{same, same_at};
-use crate::shapes::BOTH;
 use mb_claim::steps::{accesses_lengthen_one_part, claims_make_steps};
-use mb_claim::{Claim, ClaimOp, Layout, Shape, Stage};
+use mb_claim::{Claim, ClaimOp, Layout, Stage};
 use mb_deciding::{Op, Reg};
 use mb_shared_claims::{AllGiven, ClaimHub, ClaimSeat, SharedClaims};
 use std::alloc::Allocator;
 use std::process::Abort;
-use std::thread::{Threads, join, map_vec};
+use std::thread::{Threads, join};
 
 /// How many cells two threads claim.
 const CELLS: u32 = 100;
-
-/// How often 16 threads claim a cell.
-const ROUNDS: u32 = 200;
 
 /// A table of claims on this many cells of this layout, with its hub.
 pub(crate) fn new_table<A: Allocator + Clone + Drop>(
@@ -156,13 +152,11 @@ fn claim_each<A: Allocator + Drop>(
     (seat, stages)
 }
 
-/// Lets two threads claim each of `CELLS` cells of this shape. Returns how each thread's claims ended.
+/// Lets two threads claim each of `CELLS` cells. Returns how each thread's claims ended.
 fn claimed_by_two<R: Abort + AllocGlobal + Threads + Sync>(
     rt: &R,
-    shape: Shape,
 ) -> ([Stage; CELLS as usize], [Stage; CELLS as usize]) {
-    let layout = one_pair(rt, 2).shaped(shape);
-    let (table, mut hub) = new_table(rt, rt.alloc(), layout, CELLS);
+    let (table, mut hub) = new_table(rt, rt.alloc(), one_pair(rt, 2), CELLS);
     let first = new_seat(rt, &table, &mut hub);
     let second = new_seat(rt, &table, &mut hub);
     let (front, back) = join(
@@ -182,40 +176,6 @@ fn claimed_by_two<R: Abort + AllocGlobal + Threads + Sync>(
     table.take_in(&mut hub, second);
     table.close(hub);
     (mine, theirs)
-}
-
-/// Issues the seats of all numbers that were not issued yet.
-fn all_seats<A: Allocator + Drop, B: Allocator + Drop>(
-    rt: &impl Abort,
-    table: &SharedClaims<A>,
-    hub: &mut ClaimHub,
-    alloc: B,
-) -> Vec<ClaimSeat, B>
-    requires { hub.old.table ≡ name_of table.now }
-    ensures { All (λ seat. (seat.table ≡ name_of table.now) × (seat.part ≡ [])) result.items }
-{
-    let mut seats = Vec::new(alloc);
-    for _ in 0..table.layout().consumers() {
-        let seat = new_seat(rt, table, hub);
-        let Ok(()) = seats.push(seat) else {
-            panic!(rt; "no list")
-        };
-    }
-    seats
-}
-
-/// Lets 16 threads claim one cell of this shape. Returns how each thread's claim ended.
-fn claimed_by_sixteen<R: Abort + AllocGlobal + Threads + Sync>(rt: &R, shape: Shape) -> Vec<Stage> {
-    let layout = one_pair(rt, 16).shaped(shape);
-    let (table, mut hub) = new_table(rt, rt.alloc(), layout, 1);
-    let seats = all_seats(rt, &table, &mut hub, rt.alloc());
-    let claim = |seat: ClaimSeat| -> Stage
-        requires { (seat.table ≡ name_of table) × (table.cells ≡ 1) × (seat.part ≡ []) }
-    {
-        let mut seat = seat;
-        claim_to_its_end(&table, &mut seat, 0)
-    };
-    map_vec(rt, seats, &claim).expect(rt, "no list")
 }
 
 /// The first claim on cell 0 wins in seven steps, and the second loses to it in four.
@@ -261,12 +221,6 @@ pub(crate) fn one_wins<A: Allocator + Clone + Drop>(rt: &impl Abort, alloc: A) -
     same(rt, &(hub.given(), hub.out()), &(2, 0));
     table.close(hub);
     true
-}
-
-// Two numbers are issued and no third. One consumer wins, the other loses, and the hub takes both seats back.
-#[test]
-fn numbers_and_ends(rt: HostRuntime) {
-    assert!(rt; one_wins(&rt, rt.alloc()));
 }
 
 /// Makes `steps` steps of a claim on cell 0. Checks that it goes on, and announces consumer 0 in the ratifier next.
@@ -326,33 +280,11 @@ fn name_one_winner(ends: &[Stage]) -> bool {
     true
 }
 
-/// Whether all claims on a cell of this shape name one winner, if any. With a last object none is undecided, and one of
-/// them has won it.
-fn is_won_once(shape: Shape, ends: &[Stage]) -> bool {
-    let is_decided = !ends.contains(&Stage::Undecided) && ends.contains(&Stage::Won);
-    name_one_winner(ends) && (!shape.last || is_decided)
-}
-
-// Claims on plain cells, and on cells with a fast path and a last object. With the latter no claim is undecided.
 #[test]
-fn two_threads_claim_a_hundred_cells_of_each_kind(rt: HostRuntime) {
-    for shape in &[Shape::PLAIN, BOTH] {
-        let (mine, theirs) = claimed_by_two(&rt, *shape);
-        for cell in 0..CELLS as usize {
-            let is_one = is_won_once(*shape, &[mine[cell], theirs[cell]]);
-            same_at(&rt, &is_one, &true, &(*shape, cell));
-        }
-    }
-}
-
-// Claims on plain cells, and on cells with a fast path and a last object. With the latter no claim is undecided.
-#[test]
-fn sixteen_threads_claim_one_cell_of_each_kind(rt: HostRuntime) {
-    for shape in &[Shape::PLAIN, BOTH] {
-        for _ in 0..ROUNDS {
-            let ends = claimed_by_sixteen(&rt, *shape);
-            let told = (ends.len(), is_won_once(*shape, ends.as_slice()));
-            same_at(&rt, &told, &(16, true), shape);
-        }
+fn two_threads_claim_a_hundred_cells(rt: HostRuntime) {
+    let (mine, theirs) = claimed_by_two(&rt);
+    for cell in 0..CELLS as usize {
+        let is_one = name_one_winner(&[mine[cell], theirs[cell]]);
+        same_at(&rt, &is_one, &true, &cell);
     }
 }

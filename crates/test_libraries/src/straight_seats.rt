@@ -50,17 +50,6 @@ fn straight_claims_and_their_rests(rt: HostRuntime) {
             (14, 3),
             ((3, 4, Stage::Won), (1, 3, Stage::Lost(0))),
         ),
-        (
-            (13, 6),
-            (0, 9),
-            ((0, 6, Stage::Going), (0, 4, Stage::Lost(0))),
-        ),
-        (
-            (14, 3),
-            (17, 0),
-            ((3, 3, Stage::Going), (4, 0, Stage::Lost(0))),
-        ),
-        ((0, 0), (17, 0), ((0, 0, Stage::Going), (7, 0, Stage::Won))),
     ] {
         let (table, mut hub) = new_table(&rt, rt.alloc(), one_pair(&rt, 2), 1);
         let mut a = new_seat(&rt, &table, &mut hub);

@@ -2,7 +2,7 @@
 
 use crate::compare::same_at;
 use crate::mailboxes::Scene;
-use crate::rationed::{four_are_served, second_call_is_done, two_are_served};
+use crate::rationed::{four_are_served, two_are_served};
 use crate::refused_mailboxes::{
     Alloc, consumer_is_served, gather_is_served, new_is_served, producer_is_served,
 };
@@ -23,8 +23,6 @@ enum Call {
     /// A report is gathered after this scene.
     Gather(Scene),
     TwoWorkers,
-    /// Two workers, whose refused call is made again.
-    SecondCall,
     FourWorkers,
     /// A round after items were handed in.
     Round,
@@ -44,7 +42,6 @@ fn is_served<'r, R: Abort + Threads + Wait + Sync>(
         Call::Consumer => consumer_is_served(rt, alloc, ample),
         Call::Gather(scene) => gather_is_served(rt, alloc, ample, scene),
         Call::TwoWorkers => two_are_served(rt, alloc, ample),
-        Call::SecondCall => second_call_is_done(rt, alloc, ample),
         Call::FourWorkers => four_are_served(rt, alloc, ample),
         Call::Round => round_is_served(rt, alloc, ample),
     }
@@ -141,8 +138,6 @@ const CALLS: &[(&str, Call, u64)] = &[
     ("lone producer", ENDED_LANE, 1),
     // Three lists for the workers, the producer's items, the marks and words of the consumer's notes.
     ("two workers", Call::TwoWorkers, 6),
-    // As many as in a mailbox of one lane: one lane more needs no further list.
-    ("second call", Call::SecondCall, 6),
     // Three lists for the workers, each producer's items, each consumer's marks and words.
     ("four workers", Call::FourWorkers, 9),
     // The items, two lists of lists with two lists each, and ten of the mailbox, its workers and what comes out.

@@ -2,11 +2,14 @@
 
 use crate::compare::same;
 use crate::gates::TURNS;
-use crate::workers::stop_one;
+use crate::trials::{ends, new_trial};
+use crate::workers::{ONE_STOPPED, lists};
 use mb_mailbox::{Gate, Who};
-use std::slice;
+use std::process::Abort;
+use std::sync::Wait;
 use std::sync::atomic::{AtomicBool, AtomicU64, Ordering};
-use std::thread::yield_now;
+use std::thread::{Threads, yield_now};
+use test_support::SeenZeros;
 
 /// A gate at which the producer, leaving after its put, waits until the consumer has polled once. No wait is endless.
 #[derive(Drop)]
@@ -55,6 +58,23 @@ impl Gate for PollInALeave {
     }
 }
 
+/// In a new mailbox of one cell a worker puts the item 5, and a consumer polls, whose words are counted at the gate.
+/// Checks that the gate stops one worker, and that the report has this text.
+fn stop_one<R: Abort + AllocGlobal + Threads + Wait + Sync>(
+    rt: &R,
+    gate: &PollInALeave,
+    report: &str,
+) {
+    let alloc = rt.alloc();
+    let mut trial = new_trial(rt, alloc, 1, 1, 1);
+    let mut rngs = Vec::new(alloc);
+    let source = SeenZeros { given: &gate.drawn };
+    rngs.push(source).expect(rt, "no list");
+    let worked = trial.work(alloc, rt, lists(rt, alloc, &[&[5]]), 100, rngs, gate);
+    same(rt, &worked, &Ok(ONE_STOPPED));
+    ends(rt, alloc, trial, report);
+}
+
 // What is seen while the put leaves the gate, and when the poll leaves it, shows that their accesses were made.
 #[test]
 fn a_call_is_told_of_after_its_accesses(rt: HostRuntime) {
@@ -67,7 +87,7 @@ fn a_call_is_told_of_after_its_accesses(rt: HostRuntime) {
     // While the put leaves the gate, the consumer polls once. It is stopped at its next call. The poll finds the item,
     // so the item was put before the put left the gate.
     let report = "lane 0 ended put 5\nleft 0\ndiary 0 0 took 5\n";
-    stop_one(&rt, slice::from_ref(&gate.drawn), &gate, report);
+    stop_one(&rt, &gate, report);
     // An only consumer's claim makes five accesses, three to the conciliator and two to the proposal. It draws a word
     // for each. All were made before the poll left the gate.
     same(&rt, &gate.told.load(Ordering::SeqCst), &5);

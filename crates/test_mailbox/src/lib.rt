@@ -4,17 +4,11 @@
 #[cfg(test)]
 mod beside;
 #[cfg(test)]
-mod budgets;
-#[cfg(test)]
 mod compare;
-#[cfg(test)]
-mod draws;
 #[cfg(test)]
 mod gates;
 #[cfg(test)]
 mod growths;
-#[cfg(test)]
-mod last_objects;
 #[cfg(test)]
 mod leaves;
 #[cfg(test)]
@@ -37,7 +31,5 @@ mod texts;
 mod trial;
 #[cfg(test)]
 mod trials;
-#[cfg(test)]
-mod words;
 #[cfg(test)]
 mod workers;

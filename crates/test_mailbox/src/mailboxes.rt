@@ -195,33 +195,6 @@ fn no_report_is_made_while_one_is_out(rt: HostRuntime) {
     is_gathered_at_last(&rt, A_LATER_CONSUMER_LOSES_TO_ONE_THAT_WENT_AWAY, 2);
 }
 
-/// Appends each of 300 items, in their order, with these texts around it.
-fn push_each(rt: &impl Abort, text: &mut String, before: &str, after: &str) {
-    for x in 0..300u64 {
-        write!(text, "{before}{x}{after}").expect(rt, "no text");
-    }
-}
-
-// A script has at most 256 cells, and this mailbox has 300. All items are put and then taken, in their order.
-#[test]
-fn a_large_mailbox_takes_more_items_than_a_script_has(rt: HostRuntime) {
-    let both_given = "producer: given\nconsumer: given\n";
-    let mut lines = both_given.to_string(rt.alloc()).expect(&rt, "no text");
-    push_each(&rt, &mut lines, "put 0 ", ": linked\n");
-    push_each(&rt, &mut lines, "poll 0 0 100: took ", "\n");
-    let mut report = "lane 0 open put"
-        .to_string(rt.alloc())
-        .expect(&rt, "no text");
-    push_each(&rt, &mut report, " ", "");
-    report
-        .push_str("\nleft 0\ndiary 0 0")
-        .expect(&rt, "no text");
-    push_each(&rt, &mut report, " took ", "");
-    report.push_str("\n").expect(&rt, "no text");
-    let setup = Setup::large(1, 1, 300, 1, TableName::Bits).expect(&rt, "no setup");
-    plays_in(&rt, setup, lines.as_str(), report.as_str());
-}
-
 // The report needs memory for its items, however many cells there are.
 #[test]
 fn a_mailbox_of_a_million_cells_is_gathered(rt: HostRuntime) {

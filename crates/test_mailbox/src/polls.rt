@@ -9,9 +9,6 @@ use mb_world::Setup;
 /// The report after the only consumer took the only item.
 const SEVEN_TAKEN: &str = "lane 0 open put 7\nleft 0\ndiary 0 0 took 7\n";
 
-/// The same report, but with another consumer, which has not polled.
-const OTHER_IDLE: &str = "lane 0 open put 7\nleft 0\ndiary 0 0 took 7\ndiary 1 0\n";
-
 /// In each case all polls have one budget. The first ones are spent, if any, and the last one takes the item. The claim
 /// makes five accesses.
 const SHORT_POLLS: &[Scene] = &[
@@ -51,18 +48,6 @@ drawn: words 5
 ",
         SEVEN_TAKEN,
     ),
-    (
-        [1, 1, 1],
-        "\
-producer: given
-consumer: given
-put 0 7: linked
-spend 0 100 0: spent 0
-poll 0 0 100: took 7
-drawn: words 5
-",
-        SEVEN_TAKEN,
-    ),
 ];
 
 #[test]
@@ -72,126 +57,24 @@ fn a_budget_cuts_polls_short(rt: HostRuntime) {
     }
 }
 
-/// Eight polls are spent in all, before or after another consumer is issued. The claim has seven accesses.
-const PARTED_POLLS: &[Scene] = &[
-    (
-        [1, 2, 1],
-        "\
-producer: given
-consumer: given
-put 0 7: linked
-spend 0 1 1: spent 1
-consumer: given
-spend 0 1 7: spent 7
-poll 0 0 1: took 7
-drawn: words 7
-",
-        OTHER_IDLE,
-    ),
-    (
-        [1, 2, 1],
-        "\
-producer: given
-consumer: given
-put 0 7: linked
-spend 0 1 2: spent 2
-consumer: given
-spend 0 1 6: spent 6
-poll 0 0 1: took 7
-drawn: words 7
-",
-        OTHER_IDLE,
-    ),
-    (
-        [1, 2, 1],
-        "\
-producer: given
-consumer: given
-put 0 7: linked
-spend 0 1 3: spent 3
-consumer: given
-spend 0 1 5: spent 5
-poll 0 0 1: took 7
-drawn: words 7
-",
-        OTHER_IDLE,
-    ),
-    (
-        [1, 2, 1],
-        "\
-producer: given
-consumer: given
-put 0 7: linked
-spend 0 1 4: spent 4
-consumer: given
-spend 0 1 4: spent 4
-poll 0 0 1: took 7
-drawn: words 7
-",
-        OTHER_IDLE,
-    ),
-    (
-        [1, 2, 1],
-        "\
-producer: given
-consumer: given
-put 0 7: linked
-spend 0 1 5: spent 5
-consumer: given
-spend 0 1 3: spent 3
-poll 0 0 1: took 7
-drawn: words 7
-",
-        OTHER_IDLE,
-    ),
-    (
-        [1, 2, 1],
-        "\
-producer: given
-consumer: given
-put 0 7: linked
-spend 0 1 6: spent 6
-consumer: given
-spend 0 1 2: spent 2
-poll 0 0 1: took 7
-drawn: words 7
-",
-        OTHER_IDLE,
-    ),
-    (
-        [1, 2, 1],
-        "\
-producer: given
-consumer: given
-put 0 7: linked
-spend 0 1 7: spent 7
-consumer: given
-spend 0 1 1: spent 1
-poll 0 0 1: took 7
-drawn: words 7
-",
-        OTHER_IDLE,
-    ),
-    (
-        [1, 2, 1],
-        "\
-producer: given
-consumer: given
-put 0 7: linked
-spend 0 1 8: spent 8
-consumer: given
-spend 0 1 0: spent 0
-poll 0 0 1: took 7
-drawn: words 7
-",
-        OTHER_IDLE,
-    ),
-];
-
+// Eight polls are spent in all, before or after another consumer is issued. The claim has seven accesses.
 #[test]
 fn another_consumer_is_given_between_two_polls(rt: HostRuntime) {
-    for &(sizes, lines, report) in PARTED_POLLS {
-        plays(&rt, sizes, lines, report);
+    for before in 1..=8u64 {
+        let after = 8 - before;
+        let mut lines = "producer: given\nconsumer: given\nput 0 7: linked\n"
+            .to_string(rt.alloc())
+            .expect(&rt, "no text");
+        write!(
+            lines,
+            "spend 0 1 {before}: spent {before}\nconsumer: given\nspend 0 1 {after}: spent {after}\n"
+        )
+        .expect(&rt, "no text");
+        lines
+            .push_str("poll 0 0 1: took 7\ndrawn: words 7\n")
+            .expect(&rt, "no text");
+        let report = "lane 0 open put 7\nleft 0\ndiary 0 0 took 7\ndiary 1 0\n";
+        plays(&rt, [1, 2, 1], lines.as_str(), report);
     }
 }
 

@@ -55,47 +55,6 @@ pub(crate) fn two_are_served<'r, R: Abort + Threads + Wait + Sync>(
     served
 }
 
-/// One worker puts two items and another polls, in a mailbox with numbers for two more. If the first allocator does not
-/// serve them, the call is made again with memory, and is done. Checks that the report has the items and the notes of
-/// the call that was done. They are under the second numbers if the first call was refused after it had issued both
-/// first ones. Returns whether the first call was done.
-pub(crate) fn second_call_is_done<'r, R: Abort + Threads + Wait + Sync>(
-    rt: &R,
-    alloc: Alloc<'r>,
-    ample: Alloc<'r>,
-) -> bool {
-    let mut trial = new_trial(rt, ample, 2, 2, 2);
-    let served = is_done(rt, &mut trial, alloc, ample, &[&[1, 2]], 1);
-    let at_last = served || is_done(rt, &mut trial, ample, ample, &[&[1, 2]], 1);
-    same(rt, &at_last, &true);
-    let given_before = !has_lane(&mut trial, ample);
-    let report = if given_before {
-        "\
-lane 0 ended put
-left 0
-lane 1 ended put 1 2
-left 1
-diary 0 0
-diary 0 1 took 1 took 2
-diary 1 0
-diary 1 1
-"
-    } else {
-        "\
-lane 0 ended put 1 2
-left 0
-lane 1 open put
-left 1
-diary 0 0 took 1 took 2
-diary 0 1
-diary 1 0
-diary 1 1
-"
-    };
-    ends(rt, ample, trial, report);
-    served
-}
-
 /// The report of two lanes without items and two consumers without notes. `left` says whether one producer's number was
 /// left, and whether two were: their lanes are open.
 fn nothing_is_told<'a>(left: (bool, bool)) -> &'a str {

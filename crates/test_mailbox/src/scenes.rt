@@ -108,7 +108,7 @@ fn make<'a, A: Allocator + Copy + Drop>(
     }
 }
 
-/// The word for the result of a hub that was asked for a producer or consumer. The next functions are for other calls.
+/// The word that a line has for the result of a hub that was asked for a producer or consumer.
 fn given<'a>(told: Result<(), HubFault>) -> Answered<'a> {
     let word = match told {
         Ok(()) => "given",
@@ -118,6 +118,7 @@ fn given<'a>(told: Result<(), HubFault>) -> Answered<'a> {
     (word, None)
 }
 
+/// The word for the result of a put.
 fn put<'a>(told: Option<Put>) -> Answered<'a> {
     let word = match told {
         Some(Put::Linked) => "linked",
@@ -128,6 +129,7 @@ fn put<'a>(told: Option<Put>) -> Answered<'a> {
     (word, None)
 }
 
+/// The word for the result of a finish.
 fn finished<'a>(told: Option<Finish>) -> Answered<'a> {
     let word = match told {
         Some(Finish::Ended) => "ended",
@@ -138,6 +140,7 @@ fn finished<'a>(told: Option<Finish>) -> Answered<'a> {
     (word, None)
 }
 
+/// The word for the result of a poll or a take, and the item or the winner.
 fn polled<'a>(told: Option<Poll>) -> Answered<'a> {
     match told {
         Some(Poll::Took(item)) => ("took", Some(item)),
@@ -151,6 +154,7 @@ fn polled<'a>(told: Option<Poll>) -> Answered<'a> {
     }
 }
 
+/// The word for whether there was a producer to take back.
 fn taken<'a>(told: bool) -> Answered<'a> {
     (if told { "taken" } else { "nobody" }, None)
 }

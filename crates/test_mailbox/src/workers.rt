@@ -12,7 +12,7 @@ use std::process::Abort;
 use std::sync::Wait;
 use std::sync::atomic::{AtomicU64, Ordering};
 use std::thread::Threads;
-use test_support::{SeenZeros, Zeros};
+use test_support::Zeros;
 
 /// The result of `work` if each item was put and nobody was stopped.
 pub(crate) const ALL_DONE: Worked = Worked {
@@ -110,32 +110,6 @@ pub(crate) fn all_done<R: Abort + AllocGlobal + Threads + Wait + Sync, G: Gate>(
     let worked = works(rt, &mut trial, items, budget, consumers as usize, gate);
     same(rt, &worked, &Ok(ALL_DONE));
     gathered(rt, rt.alloc(), trial)
-}
-
-/// A source of zeros for each of these counters. Each counts there the words that it gave.
-fn seen_sources<'a>(rt: &impl Abort, alloc: Global, given: &'a [AtomicU64]) -> Vec<SeenZeros<'a>> {
-    let mut sources = Vec::new(alloc);
-    for given in given {
-        sources.push(SeenZeros { given }).expect(rt, "no list");
-    }
-    sources
-}
-
-/// In a new mailbox of one cell a worker puts the item 5, and for each of these counters a consumer polls, which counts
-/// there the words that it draws. Checks that the gate stops one worker, and that the report has this text.
-pub(crate) fn stop_one<R: Abort + AllocGlobal + Threads + Wait + Sync, G: Gate>(
-    rt: &R,
-    given: &[AtomicU64],
-    gate: &G,
-    report: &str,
-) {
-    let alloc = rt.alloc();
-    let mut trial = new_trial(rt, alloc, 1, given.len() as u64, 1);
-    let items = lists(rt, alloc, &[&[5]]);
-    let rngs = seen_sources(rt, alloc, given);
-    let worked = trial.work(alloc, rt, items, 100, rngs, gate);
-    same(rt, &worked, &Ok(ONE_STOPPED));
-    ends(rt, alloc, trial, report);
 }
 
 /// A mailbox of one producer, one consumer and two cells, and the budget of a poll.

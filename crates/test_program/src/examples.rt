@@ -26,7 +26,7 @@ use texts::TEXTS;
 
 /// Runs the program with these words and this standard input. Returns what standard output and standard error got, and
 /// the status.
-pub(crate) fn ended<R: AllocGlobal + Threads + Wait + Sync>(
+fn ended<R: AllocGlobal + Threads + Wait + Sync>(
     rt: &R,
     words: &[&str],
     input: &str,

@@ -14,16 +14,6 @@ const FAULTS: &[(Failed, &str, u8)] = &[
         2,
     ),
     (
-        Failed::Ratify(RatifyFault::BadLine(1)),
-        "fault 3 BadLine 1\n",
-        2,
-    ),
-    (
-        Failed::Ratify(RatifyFault::BadLine(2)),
-        "fault 3 BadLine 2\n",
-        2,
-    ),
-    (
         Failed::Ratify(RatifyFault::BadLine(4)),
         "fault 3 BadLine 4\n",
         2,
@@ -50,13 +40,7 @@ const FAULTS: &[(Failed, &str, u8)] = &[
     ),
     (Failed::Replay(Fault::TooLong), "fault 1 TooLong\n", 2),
     (Failed::Replay(Fault::NotAscii), "fault 2 NotAscii\n", 2),
-    (Failed::Replay(Fault::BadLine(1)), "fault 3 BadLine 1\n", 2),
     (Failed::Replay(Fault::BadLine(3)), "fault 3 BadLine 3\n", 2),
-    (
-        Failed::Replay(Fault::BadNumber(1)),
-        "fault 4 BadNumber 1\n",
-        2,
-    ),
     (
         Failed::Replay(Fault::BadNumber(20_001)),
         "fault 4 BadNumber 20001\n",

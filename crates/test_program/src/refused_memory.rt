@@ -8,7 +8,7 @@ use crate::examples::ratifiers::LATE_INPUT;
 use crate::examples::runs::TWO_ITEMS;
 use crate::ratify::ratified;
 use crate::replay::{is_text, replayed, report_is_served};
-use crate::run::{ALONE, reported};
+use crate::run::reported;
 use mb_program::{Failed, RatifyFault, RunFault, fault_text};
 use mb_script::Fault;
 use mb_world::{Note, SetupFault};
@@ -72,7 +72,7 @@ fn is_served<R: Abort + AllocGlobal + Threads + Wait + Sync>(
             is_done(rt, told, Fault::NoMemory, example.output)
         }
         Call::Run(example) => {
-            let told = reported(rt, alloc, ALONE);
+            let told = reported(rt, alloc);
             is_done(rt, told, RunFault::NoMemory, example.output)
         }
         Call::ReportText(example) => {

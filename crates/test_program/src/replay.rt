@@ -4,7 +4,7 @@ use crate::compare::{same, same_at};
 use crate::devices::{Letters, NarrowWriter, SlowReader};
 use crate::examples::claims::ITEM_TAKEN;
 use mb_script::{CountingIo, Fault, report_text, run};
-use mb_world::{Note, SetupFault};
+use mb_world::Note;
 use std::alloc::{AllocError, Allocator, Global};
 use std::process::Abort;
 use test_support::made_up;
@@ -30,8 +30,7 @@ fn replayed_bytes<R: AllocGlobal, A: Allocator + Copy>(
     (result, writer.device)
 }
 
-/// Scripts with their first fault, for which nothing is written, even if a script begins with good lines. More such
-/// scripts are in `test_libraries`.
+/// Scripts with their first fault, for which nothing is written, even if a script begins with good lines.
 const REFUSED: &[(&str, Fault)] = &[
     ("", Fault::NoSetup),
     ("\n", Fault::NoSetup),
@@ -39,10 +38,6 @@ const REFUSED: &[(&str, Fault)] = &[
     ("setup 1 1 1 1\n", Fault::BadLine(1)),
     ("setup 1 1 1 1 bits\r\n", Fault::BadLine(1)),
     ("setup 0 17 300 x bits\n", Fault::BadNumber(1)),
-    (
-        "setup 0 0 300 0 bits\npush\n",
-        Fault::BadSetup(1, SetupFault::BadProducers),
-    ),
     ("setup 1 1 1 1 bits\noffer 0\n", Fault::BadLine(2)),
     ("setup 1 1 1 1 bits\npush  0\n", Fault::BadLine(2)),
     ("setup 1 1 1 1 bits\npush 0 \n", Fault::BadLine(2)),
@@ -61,16 +56,11 @@ const REFUSED: &[(&str, Fault)] = &[
     ),
     ("setup 1 1 1 1 bits\nstep 5 5 0\n", Fault::NoLane(2)),
     ("setup 1 1 1 1 bits\nstep 0 1x 0\n", Fault::BadNumber(2)),
-    ("setup 1 1 1 1 bits\npush 0\npush\n", Fault::BadLine(3)),
-    ("setup 1 1 1 1 bits\npush 1\npush\n", Fault::NoLane(2)),
     ("setup 1 1 0 1 bits\npush 00\n", Fault::BadNumber(2)),
     ("setup 1 16 0 1 bits\nstep 16 0 0\n", Fault::NoConsumer(2)),
     ("setup 1 16 0 1 bits\nstep 16 1 0\n", Fault::NoLane(2)),
-    // A shape is a seventh word. It is checked before any number is read.
-    ("setup x 1 1 1 bits other\n", Fault::BadLine(1)),
+    // The seventh word names no shape.
     ("setup 1 1 1 1 bits plain\n", Fault::BadLine(1)),
-    ("setup 1 1 1 1 bits fast last\n", Fault::BadLine(1)),
-    ("setup x 1 1 1 bits fast\n", Fault::BadNumber(1)),
 ];
 
 #[test]
@@ -122,12 +112,10 @@ fn answers<R: Abort + AllocGlobal>(rt: &R, count: usize) -> String {
 
 #[test]
 fn many_events_are_replayed(rt: HostRuntime) {
-    for count in [1_000, 19_999, 20_000] {
-        let script = pushes(&rt, "setup 1 1 1 1 bits\n", count, "");
-        let (result, text) = replayed(&rt, rt.alloc(), &script);
-        let is_whole = text.as_slice() == answers(&rt, count).as_bytes();
-        same_at(&rt, &(result, is_whole), &(Ok(()), true), &count);
-    }
+    let script = pushes(&rt, "setup 1 1 1 1 bits\n", 20_000, "");
+    let (result, text) = replayed(&rt, rt.alloc(), &script);
+    let is_whole = text.as_slice() == answers(&rt, 20_000).as_bytes();
+    same(&rt, &(result, is_whole), &(Ok(()), true));
 }
 
 // A line after as many events as are allowed is one too many, whatever it says. A bad line before it is the fault.

@@ -1,4 +1,4 @@
-//! The counts of runs.
+//! What the soak counts in its runs, and prints: runs, items, notes, and workers that were stopped.
 
 use std::fmt;
 use test_audit::Tally;

@@ -272,6 +272,8 @@ impl<T> Receiver<T> {
         }
     }
 
+    /// Calls `take` until it takes something, a value or a job, or the channel is over, or this time has come. The thread
+    /// sleeps between two calls.
     #[cold]
     fn wait<G>(
         &self,

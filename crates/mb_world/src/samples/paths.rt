@@ -1,5 +1,5 @@
 //! Sample parts of a consumer that do not fit each other.
-ghost use Rattle.mb_world.specs.PathSamples.{claimed_unseen, passed_without_claim, read_head_again, read_unclaimed, two_cells};
+ghost use Rattle.mb_world.specs.PathSamples.{read_unclaimed, two_cells};
 ghost use Rattle.mb_world.specs.Vocabulary.{Fits};
 
 use mb_claim::laws::prefixes_have_one_stage;
@@ -7,17 +7,10 @@ use mb_claim::samples::samples_are_lawful;
 use mb_claim::steps::claims_have_one_next_op;
 use mb_quorum::laws::named_tables_are_lawful;
 
-/// Each clause has two parts of consumer 0 that do not fit each other.
+/// Two parts of consumer 0 that do not fit each other.
 pub fn parts_do_not_fit()
-    // A claim is on a cell that no load gave.
-    ensures unmet { Fits two_cells 0 claimed_unseen → ⊥ }
-
-    // An item is loaded although the claim is not won, or the link of its cell although the claim has not ended.
-    ensures unclaimed { Fits two_cells 0 read_unclaimed → ⊥ }
-    ensures passed { Fits two_cells 0 passed_without_claim → ⊥ }
-
-    // The head is loaded again after it led to a cell.
-    ensures back { Fits two_cells 0 read_head_again → ⊥ }
+    // An item is loaded although the claim is not won.
+    ensures { Fits two_cells 0 read_unclaimed → ⊥ }
 {
     named_tables_are_lawful();
     samples_are_lawful();

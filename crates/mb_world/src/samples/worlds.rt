@@ -1,15 +1,12 @@
 //! A small sample world: what is done in it, what is reported of it, and what may be neither done nor reported.
 ghost use Rattle.std.specs.Prelude.{[], ◌∷◌, Some, None};
-ghost use Rattle.mb_claim.specs.declared.access.Stage.TheVariants as stage;
 ghost use Rattle.mb_world.specs.PathSamples.{first_step, two_cells};
-ghost use Rattle.mb_world.specs.WorldSamples.{IsNoDiary, IsNoReport, all_done, all_histories, all_reported, claim_missing, diary_with};
-ghost use Rattle.mb_world.specs.WorldSamples.{item_missing, loss_taken, loss_unnoted, nothing_told, offered_late, report_with, two_by_two, unwon_taken};
-ghost use Rattle.mb_world.specs.Vocabulary.{AreSound, ConsumerPath, IsClaimPrefix, IsReportOf, IsWorldLawful, Lost, NothingFollowsEnds, Took, lane_part, pool_accesses};
+ghost use Rattle.mb_world.specs.WorldSamples.{all_done, all_histories, all_reported, item_missing, loss_taken, offered_late, two_by_two};
+ghost use Rattle.mb_world.specs.Vocabulary.{AreSound, ConsumerPath, IsDiaryOf, IsReportOf, IsWorldLawful, Lost, NothingFollowsEnds, Took, lane_part, pool_accesses};
 
 use crate::laws::{places_tell_diaries, worlds_are_sound};
 use crate::steps::history_extends;
 use mb_cells::steps::{history_extends as one_pool_step, places_lead_on};
-use mb_claim::laws::prefixes_have_one_stage;
 use mb_claim::samples::samples_are_lawful;
 use mb_claim::steps::claims_have_one_next_op;
 use mb_quorum::laws::named_tables_are_lawful;
@@ -29,7 +26,6 @@ pub fn worlds_go_on()
         (lane_part 1 0 all_done) (0 ∷ []) (Lost 0 ∷ []) None }
     ensures begun { ConsumerPath two_cells 1 1
         (lane_part 1 1 all_done) (1 ∷ []) [] (Some (first_step ∷ [])) }
-    ensures going { IsClaimPrefix two_cells 1 (first_step ∷ []) stage.Going }
 {
     named_tables_are_lawful();
     samples_are_lawful();
@@ -54,34 +50,17 @@ pub fn worlds_are_reported()
     worlds_go_on();
 }
 
-/// Reports and diaries that are not of the small world.
+/// A report and a diary that are not of the small world.
 pub fn worlds_are_not_misreported()
-    // A report lacks an item that nobody took, or a note, or has nothing in it.
-    ensures left { IsNoReport item_missing }
-    ensures skipped { IsNoReport (report_with (6 ∷ []) loss_unnoted) }
-    ensures nothing { IsNoReport nothing_told }
+    // A report lacks an item that nobody took.
+    ensures left { IsReportOf two_by_two all_histories item_missing → ⊥ }
 
-    // A diary has no note on an item that its consumer has lost.
-    ensures silent { IsNoDiary 1 0 loss_unnoted }
+    // A diary says that its consumer took an item that it has lost.
+    ensures lost { IsDiaryOf two_by_two 1 0 all_histories loss_taken → ⊥ }
+{}
 
-    // A diary says that its consumer took an item that it has not won.
-    ensures lost { IsNoDiary 1 0 loss_taken }
-    ensures unwon { IsNoDiary 1 1 unwon_taken }
-
-    // A diary does not say that a claim is begun. In place of a consumer's diary there is another consumer's.
-    ensures open { IsNoDiary 1 1 claim_missing }
-    ensures other { IsNoDiary 1 0 (diary_with 0 0 (Lost 0 ∷ [])) }
-{
-    named_tables_are_lawful();
-    samples_are_lawful();
-    prefixes_have_one_stage();
-    worlds_go_on();
-}
-
-/// What breaks the rule of end marks: a note that is missing, and an access of the lane's producer after its mark.
+/// What breaks the rule of end marks: an access of the lane's producer after its mark.
 pub fn end_marks_are_not_passed()
-    ensures unnoted { NothingFollowsEnds all_histories.pool all_histories.reader_of
-        (report_with (6 ∷ []) loss_unnoted) → ⊥ }
-    ensures late { NothingFollowsEnds (pool_accesses (offered_late ∷ all_done))
+    ensures { NothingFollowsEnds (pool_accesses (offered_late ∷ all_done))
         all_histories.reader_of all_reported → ⊥ }
 {}

@@ -1,5 +1,5 @@
 -- Proof of `samples::readers_go_where_they_are_led`: a reader loads a cell's words only after it loaded a link to it.
-use Rattle.std.proofs.Common.{ap, arith, inl, inr, refl, ℕ, ◌+◌, ◌<◌, ◌≡◌}
+use Rattle.std.proofs.Common.{ap, arith, inl, inr, ℕ, ◌+◌, ◌≡◌}
 use Rattle.mb_cells.proofs.samples.readers_go_where_they_are_led.Goals as goal
 use Rattle.mb_cells.specs.{Load, PoolAccess}
 
@@ -9,16 +9,6 @@ returns-clause-not_given c = λ path.
       | inl gift ↦ let e : 0 ≡ 0 + 1 = gift.0 in omega arith
       | inr none ↦ none
     ]
-
-pub returns-clause-end_mark : goal.returns-clause-end_mark
-returns-clause-end_mark c = λ path.
-    elim path.1 [
-      | inl gift ↦ gift.1 refl
-      | inr none ↦ none
-    ]
-
-pub returns-clause-no_lane : goal.returns-clause-no_lane
-returns-clause-no_lane c = λ path. let low : 1 < 1 = path.1 in omega arith
 
 -- equal loads found equal values
 same_load : (n m : ℕ) → Load n ≡ Load m → n ≡ m

@@ -1,8 +1,7 @@
 -- Proof of `laws::sample_emptiness`: which loads of a consumer find a lane empty.
-use Rattle.std.proofs.Common.{◌≡◌, ◌++◌, List, [], ◌∷◌, ap, arith, length, refl, subst}
-use Rattle.std.proofs.lemmas.List.{length-append}
-use Rattle.mb_mailbox.specs.Imports.{Counter, Head, HasMet, History, Link, PoolAccess, Reader, Word, cells_met, load, part}
-use Rattle.mb_mailbox.specs.EmptinessSamples.{looked_past, met_one}
+use Rattle.std.proofs.Common.{◌≡◌, ◌++◌, [], ◌∷◌, refl, subst}
+use Rattle.mb_mailbox.specs.Imports.{Head, HasMet, History, Link, Reader, cells_met, load, part}
+use Rattle.mb_mailbox.specs.EmptinessSamples.{met_one}
 use Rattle.mb_mailbox.proofs.laws.sample_emptiness.Goals as goal
 
 pub returns-clause-whole : goal.returns-clause-whole
@@ -22,21 +21,4 @@ pub returns-clause-early : goal.returns-clause-early
 returns-clause-early c s found =
     let same : load s.reader.reader (Head 0) 1 ∷ [] ≡ load s.reader.reader (Link 0) 0 ∷ found.made ++ [] =
     found.newest in
-    absurd (cc)
-
-pub returns-clause-idle : goal.returns-clause-idle
-returns-clause-idle c s found =
-    let long = ap length found.newest in
-    let sum = length-append found.made (looked_past s) in
-    absurd (omega (arith, long, sum))
-
--- the word of the first of these accesses
-first_word : List PoolAccess → Word
-first_word [] = Counter
-first_word (a ∷ rest) = a.word
-
-pub returns-clause-behind : goal.returns-clause-behind
-unfolding first_word
-returns-clause-behind c s found =
-    let same : Head 0 ≡ Link 0 = ap first_word found.newest in
     absurd (cc)

@@ -23,7 +23,3 @@ returns-clause-one_left c = (
 -- the value 8 was handed in once and not given out, so it is carried
 pub returns-clause-none_left : goal.returns-clause-none_left
 returns-clause-none_left c e = let t = all_there 8 two_rounds [] e in absurd (omega (arith, t))
-
--- the value 8 was handed in once and not given out, so it is carried
-pub returns-clause-other_left : goal.returns-clause-other_left
-returns-clause-other_left c e = let t = all_there 8 two_rounds (7 ∷ []) e in absurd (omega (arith, t))

@@ -9,71 +9,13 @@ use Rattle.mb_cells.specs.declared.access.Process.{Process}
 use Rattle.mb_cells.specs.declared.access.Process.TheVariants.{Producer, Reader}
 use Rattle.mb_cells.specs.declared.access.Word.{Word}
 use Rattle.mb_cells.specs.declared.access.Word.TheVariants.{Counter, Head, Item, Link}
-use Rattle.mb_shared_cells.specs.Rule.{FitsView, IsEnrolled, IsHub, Seating, StandsAt}
+use Rattle.mb_shared_cells.specs.Rule.{FitsView, IsEnrolled, Seating, StandsAt}
 use Rattle.mb_shared_cells.specs.Samples.{hub_of_one, lane_with, one_by_one}
-use Rattle.mb_shared_cells.specs.Views.{empty_roll, first_view, roll_at}
+use Rattle.mb_shared_cells.specs.Views.{roll_at}
 use Rattle.mb_shared_cells.specs.declared.views.Roll.{Roll}
 use Rattle.mb_shared_cells.specs.declared.views.View.{View}
 use Rattle.mb_shared_cells.proofs.samples.words_and_views_agree.Goals as goal
 
--- ---- nothing was done
--- the seating of a new table: the hub is at seat 0, and nobody is issued
-abbrev nothing : Seating
-nothing = record { history = []; lanes = 0; readers = 0; hub = 0; seat_of = λ who. 0 }
-
--- each word of the pool holds 0
-all_zeros : (w : Word) → IsPoolWord one_by_one w
-    → slice_index (0 ∷ 0 ∷ 0 ∷ 0 ∷ 0 ∷ []) (address_of one_by_one w) ≡ 0
-all_zeros Counter b = refl
-all_zeros (Head zero) b = refl
-all_zeros (Head (suc p)) b = absurd (omega (arith, b))
-all_zeros (Link zero) b = refl
-all_zeros (Link (suc k)) b = absurd (omega (arith, b))
-all_zeros (Item zero) b = refl
-all_zeros (Item (suc k)) b = absurd (omega (arith, b))
-
--- the empty roll has no part
-nobody_in : (who : Process) (done : History) → roll_at who empty_roll ≡ Some (Some done)
-    → (nothing.seat_of who ≡ 0) × (done ≡ part who nothing.history)
-nobody_in (Producer p) done e = absurd (cc)
-nobody_in (Reader r) done e = absurd (cc)
-
--- each process that was issued stands at seat 0: no process was issued
-nobody_stands : (who : Process) → IsEnrolled nothing who → StandsAt (first_view one_by_one ∷ []) 0 who
-nobody_stands (Producer p) low = absurd (omega (arith, low))
-nobody_stands (Reader r) low = absurd (omega (arith, low))
-
--- the view at seat 0 is the hub's
-new_hub : IsHub one_by_one nothing 0 one_by_one empty_roll
-new_hub = record { sized = refl; here = refl; lanes = refl; readers = refl; parts = nobody_in }
-
--- each view of the new table is true of its seat
-new_fits : (seat : ℕ) (v : View) → get_elem? (first_view one_by_one ∷ []) seat ≡ some v
-    → FitsView one_by_one nothing 0 seat v
-new_fits zero v e = subst (λ x. FitsView one_by_one nothing 0 0 x)
-    (some-injective (first_view one_by_one) v e) (new_hub, refl)
-new_fits (suc seat) v e = absurd (some-ne-none v (sym e))
-
--- words and views of the new table agree with the seating `nothing`
-pub returns-clause-new : goal.returns-clause-new
-returns-clause-new c = (
-  nothing,
-  record {
-    memory = record {
-      lawful = c.history_extends.ensures.empty one_by_one (omega arith);
-      room = omega arith;
-      left = all_zeros;
-    };
-    wide = refl;
-    few = omega arith;
-    drawn = omega arith;
-    nobody_else = λ who out. refl;
-    stands = nobody_stands;
-    fits = new_fits;
-  },
-)
-
--- ---- the item 8 was put
 -- the seating after `one_put`: the hub is at seat 0, and lane 0 at seat 1
 abbrev putting : Seating
 putting = record { history = one_put; lanes = 1; readers = 0; hub = 0; seat_of = λ who. 1 }
@@ -138,8 +80,8 @@ put_fits (suc zero) v e = subst (λ x. FitsView one_by_one putting 1 1 x)
 put_fits (suc (suc seat)) v e = absurd (some-ne-none v (sym e))
 
 -- words and views of this table agree with the seating `putting`
-pub returns-clause-put : goal.returns-clause-put
-returns-clause-put c = (
+pub returns : goal.returns
+returns c = (
   putting,
   record {
     memory = record {

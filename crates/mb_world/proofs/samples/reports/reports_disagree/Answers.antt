@@ -1,29 +1,11 @@
 -- Proof of `samples::reports::reports_disagree`: reports with which no assignment agrees.
-use Rattle.std.proofs.Common.{◌≡◌, ◌⊎◌, ℕ, zero, suc, ◌∷◌, [], List, Bool, Option, Some, None, false, true, refl, sym, ◌∙◌, inl, inr, arith}
+use Rattle.std.proofs.Common.{◌≡◌, ℕ, zero, suc, ◌∷◌, [], List, Bool, Option, Some, None, false, true, refl, inl, inr, arith}
 use Rattle.std.specs.Prelude.{if◌then◌else◌}
 use Rattle.std.specs.Option.{is_none}
 use Rattle.mb_world.specs.Theorem.{HasCompeted, is_consumer}
-use Rattle.mb_world.specs.ReportSamples.{diary_of, left_omitted, winner_stayed_away}
+use Rattle.mb_world.specs.ReportSamples.{diary_of, left_omitted}
 use Rattle.mb_world.proofs.ReportLists.{no_diary, not_competing}
 use Rattle.mb_world.proofs.samples.reports.reports_disagree.Goals as goal
-
--- which of the items 10 and 11 go to nobody, if a and b are what the assignment has for them
-abbrev chosen : Option ℕ → Option ℕ → List ℕ
-chosen a b = if is_none a then 10 ∷ (if is_none b then 11 ∷ [] else []) else (if is_none b then 11 ∷ [] else [])
-
--- the items left, in the wrong order
-abbrev wrong_order : List ℕ
-wrong_order = 11 ∷ 10 ∷ []
-
--- whatever the assignment has for the items, those that go to nobody are not in this order
-no_order : (a b : Option ℕ) → wrong_order ≡ chosen a b → ⊥
-no_order None None e = cc
-no_order None (Some d) e = cc
-no_order (Some c) None e = cc
-no_order (Some c) (Some d) e = cc
-
-pub returns-clause-order : goal.returns-clause-order
-returns-clause-order c t agrees = no_order (t 0 0) (t 0 1) (agrees.left 0)
 
 -- in `left_omitted` consumer 0 did not compete for the item: it has no note and no claim
 idle : HasCompeted 0 0 0 left_omitted → ⊥
@@ -34,11 +16,6 @@ idle (inr h) = let e = h.1 in cc
 nobody : (d : ℕ) → HasCompeted (suc d) 0 0 left_omitted → ⊥
 nobody d h = not_competing (suc d) 0 0 left_omitted
     (no_diary (suc d) (10 ∷ []) [] (diary_of 0 [] false ∷ []) (omega arith)) h
-
--- in `winner_stayed_away` consumer 1 did not compete for the item
-away : HasCompeted 1 0 0 winner_stayed_away → ⊥
-away (inl h) = omega (arith, h)
-away (inr h) = let e = h.1 in cc
 
 -- the list with the item 10 if the item goes to nobody, and else the empty list
 abbrev ten : Option ℕ → List ℕ
@@ -56,14 +33,6 @@ returns-clause-omitted c t agrees = by (t 0 0) refl (agrees.left 0)
     by None e f = cc
     by (Some zero) e f = idle (agrees.given.competitors 0 0 0 e).1
     by (Some (suc d)) e f = nobody d (agrees.given.competitors (suc d) 0 0 e).1
-
--- the item goes to consumer 0, so it is not left. But it is reported as left
-pub returns-clause-both : goal.returns-clause-both
-returns-clause-both c t agrees = by (t 0 0) ((agrees.given.taken 0 0 0).0 (10, refl)) (agrees.left 0)
-  where
-    by : (a : Option ℕ) → a ≡ Some 0 → ten None ≡ ten a → ⊥
-    by None e f = cc
-    by (Some d) e f = cc
 
 -- the item would go to two consumers, as both took it
 pub returns-clause-twice : goal.returns-clause-twice
@@ -88,14 +57,6 @@ no_value false e = cc
 pub returns-clause-value : goal.returns-clause-value
 returns-clause-value c t agrees = no_value (is_consumer 0 (t 0 0)) (agrees.given.ledgers 0 0)
 
--- consumer 0 has lost the item to itself. But a loss must name another consumer
-pub returns-clause-itself : goal.returns-clause-itself
-returns-clause-itself c t agrees = (agrees.given.losses 0 0 0 0 refl).another refl
-
--- consumer 1, to which the item was lost, did not compete for it. But the consumer that a loss names must have
-pub returns-clause-away : goal.returns-clause-away
-returns-clause-away c t agrees = away (agrees.given.losses 0 1 0 0 refl).competed
-
 -- two losses of one item name two consumers. But all losses of an item must name one consumer
 pub returns-clause-each : goal.returns-clause-each
 returns-clause-each c t agrees = let e = (agrees.given.losses 0 1 0 0 refl).only 1 0 refl in cc
@@ -107,16 +68,6 @@ returns-clause-begun c t agrees = let e = agrees.given.begun_within 0 0 refl in 
 -- there are more notes than items
 pub returns-clause-beyond : goal.returns-clause-beyond
 returns-clause-beyond c t agrees = let e = agrees.given.within 0 0 in omega (arith, e)
-
--- consumer 0 took the item, and the loss says that it goes to consumer 2 or to nobody
-pub returns-clause-third : goal.returns-clause-third
-returns-clause-third c t agrees =
-    by (t 0 0) ((agrees.given.taken 0 0 0).0 (5, refl)) (agrees.given.losses 1 2 0 0 refl).assigned
-  where
-    by : (a : Option ℕ) → a ≡ Some 0 → (a ≡ Some 2) ⊎ (a ≡ None) → ⊥
-    by None e f = cc
-    by (Some d) e (inl f) = let g : Some 0 ≡ Some 2 = sym e ∙ f in cc
-    by (Some d) e (inr f) = cc
 
 -- the diary at the position of consumer 0 on lane 1 says that the item was lost to consumer 0, so to itself
 pub returns-clause-by_lane : goal.returns-clause-by_lane
