@@ -74,7 +74,8 @@ invariant_of-self g c =
     let size : s.seat.table.size ≡ (h g at).cells.table.size =
     ap (λ (v : ProducerView). v.seat.table.size) c.producer.view_is
     ∙ ap (λ (t : CellsName). t.size) c.requires.producer.table
-    ∙ sym (ap (λ (m : MailboxView). m.cells.size) c.mailbox.view_is) ∙ sym (ap (λ (t : CellsName). t.size) (table g at)) in
+    ∙ sym (ap (λ (m : MailboxView). m.cells.size) c.mailbox.view_is)
+    ∙ sym (ap (λ (t : CellsName). t.size) (table g at)) in
     let own = kept_list s c.producer.invariant.0 linked in
     let took = took_producer (h g at) s c.self.invariant.0
     (subst (λ (z : PoolSize). IsPutList z.cells s.seat.lane s.seat.part (put_list_of s)) size own)
