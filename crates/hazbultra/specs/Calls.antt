@@ -1,9 +1,9 @@
 -- What a call does to what its handles lead to, a consumer's random words, and what numbers mean to C.
-use Rattle.std.specs.Prelude.{◌≡◌, ℕ, if◌then◌else◌, nat_eq, List, Option, None, Some, slice_get}
+use Rattle.std.specs.Prelude.{◌≡◌, ◌↔◌, ◌⊎◌, ◌≤◌, ℕ, false, if◌then◌else◌, nat_eq, List, Option, None, Some, slice_get}
 use Rattle.rand_core.specs.Steps.{steps_u32, stream_of}
 use Rattle.rand_core.specs.Stream.{Stream}
 use Rattle.rand_chacha.specs.ChaCha.{ChaCha, next_word, of_seed}
-use Rattle.mb_claim.specs.Vocabulary.{most_accesses}
+use Rattle.mb_claim.specs.Vocabulary.{most_accesses, shape_of}
 use Rattle.mb_claim.specs.declared.layout.Layout.{Layout}
 use Rattle.mb_quorum.specs.declared.table.TableName.{TableName}
 use Rattle.mb_quorum.specs.declared.table.TableName.TheVariants.{Bits, Middle, Unary}
@@ -13,6 +13,7 @@ use Rattle.mb_mailbox.specs.Hubs.{with_taken_consumer, with_taken_producer}
 use Rattle.mb_mailbox.specs.declared.consumer.Poll.{Poll}
 use Rattle.mb_mailbox.specs.declared.consumer.Poll.TheVariants as poll
 use Rattle.hazbultra.specs.Zeros.{zeros}
+use Rattle.hazbultra.specs.declared.codes.TheConstants.{BAD_HANDLE, NO_LANE, UNDECIDED}
 use Rattle.hazbultra.specs.declared.thing.Thing.{Thing}
 use Rattle.hazbultra.specs.declared.thing.Thing.TheVariants.{OfConsumer, OfHub}
 use Rattle.hazbultra.specs.declared.thing.Thing.TheVariants.{OfProducer, OfReport}
@@ -139,3 +140,15 @@ answer_told n x =
     else if nat_eq n 6 then Some poll.Spent
     else if nat_eq n 7 then Some poll.NoLane
     else None
+
+-- ---- what a poll and a take of a consumer come to
+-- what a poll and a take of lane `lane` have in common, by their code and value
+pub record ConsumerAnswered (code value lane : ℕ) (old new : Option Thing) : Type 0 where
+  pub decided : code ≡ UNDECIDED
+      → ConsumerMade (λ c. (shape_of c.consumer.mailbox.claims.layout).last ≡ false) old
+  pub no_lane : (code ≡ NO_LANE) ↔ ConsumerMade (λ c. c.consumer.mailbox.cells.size.lanes ≤ lane) old
+  pub refused : code ≡ NO_LANE → ConsumerWent (λ c d. (d.consumer ≡ c.consumer)
+      × (words_of d.source ≡ words_of c.source)) old new
+  pub bad : code ≡ BAD_HANDLE → IsConsumer old → ⊥
+  pub same : code ≡ BAD_HANDLE → new ≡ old
+  pub codes : (code ≡ BAD_HANDLE) ⊎ ((answer : Poll) × (answer_told code value ≡ Some answer))

@@ -1,14 +1,12 @@
 //! The calls of a producer and of a consumer.
 ghost use Rattle.std.specs.Prelude.{◌≡◌, ◌≢◌, ◌↔◌, ◌⊎◌, ◌<◌, ◌≤◌, ◌+◌, ◌*◌, ℕ, Some, false, true};
-ghost use Rattle.mb_claim.specs.Vocabulary.{most_accesses, shape_of};
+ghost use Rattle.mb_claim.specs.Vocabulary.{most_accesses};
 ghost use Rattle.mb_mailbox.specs.declared.consumer.Poll.{Poll};
 ghost use Rattle.mb_mailbox.specs.declared.consumer.Poll.TheVariants.{NoLane, Spent, Undecided};
-ghost use Rattle.mb_mailbox.specs.Jobs.{accesses_made};
+ghost use Rattle.mb_mailbox.specs.Came.{PollCameTo, TakeCameTo};
 ghost use Rattle.mb_mailbox.specs.Producers.{FoundNoCell, HasNoCellFor, IsEndOfLane};
 ghost use Rattle.mb_mailbox.specs.Producers.{IsPutInto, is_over};
-ghost use Rattle.mb_mailbox.specs.Steps.{AnswerTells, IsPollOf, outcome};
-ghost use Rattle.mb_mailbox.specs.Takes.{IsTakeOf};
-ghost use Rattle.hazbultra.specs.Calls.{ConsumerMade, ConsumerWent, IsConsumer, IsProducer};
+ghost use Rattle.hazbultra.specs.Calls.{ConsumerAnswered, ConsumerMade, ConsumerWent, IsProducer};
 ghost use Rattle.hazbultra.specs.Calls.{ProducerMade, ProducerWent, answer_told, words_of};
 ghost use Rattle.hazbultra.specs.declared.codes.TheConstants.{BAD_HANDLE, CLOSED, DONE};
 ghost use Rattle.hazbultra.specs.declared.codes.TheConstants.{FULL, LINKED, LOST, NO_LANE};
@@ -91,32 +89,15 @@ pub extern "C" fn hz_finish(producer: &mut Handle) -> u32
 #[unsafe(no_mangle)]
 pub extern "C" fn hz_poll(consumer: &mut Handle, lane: u64, budget: u64, value: &mut u64) -> u32
     // What the code and `value` tell is the result of a poll with the next random words of the consumer's source.
-    ensures polled { (answer : Poll) → answer_told result value.new ≡ Some answer
-        → answer ≢ NoLane
-        → ConsumerWent (λ c d. IsPollOf lane budget answer (words_of c.source)
-        (words_of d.source)
-        c.consumer.consumer d.consumer.consumer)
+    ensures came { (answer : Poll) → answer_told result value.new ≡ Some answer
+        → ConsumerWent (λ c d. PollCameTo c.consumer.mailbox lane budget answer
+        (words_of c.source) (words_of d.source) c.consumer.consumer d.consumer.consumer)
         consumer.old.block.thing consumer.new.block.thing }
     ensures unspent { result ≡ SPENT → ConsumerMade (λ c.
         budget < most_accesses c.consumer.mailbox.claims.layout + 2) consumer.old.block.thing }
-    ensures decided { result ≡ UNDECIDED → ConsumerMade (λ c.
-        (shape_of c.consumer.mailbox.claims.layout).last ≡ false) consumer.old.block.thing }
+    ensures answered { ConsumerAnswered result value.new lane consumer.old.block.thing
+        consumer.new.block.thing }
     ensures kept { result ≢ TOOK → result ≢ LOST → value.new ≡ value.old }
-    ensures told { (answer : Poll) → answer_told result value.new ≡ Some answer
-        → answer ≢ NoLane
-        → ConsumerWent (λ c d.
-        AnswerTells lane (outcome answer) c.consumer.consumer d.consumer.consumer)
-        consumer.old.block.thing consumer.new.block.thing }
-    ensures no_lane { (result ≡ NO_LANE) ↔ ConsumerMade (λ c.
-        c.consumer.mailbox.cells.size.lanes ≤ lane) consumer.old.block.thing }
-    ensures refused { result ≡ NO_LANE
-        → ConsumerWent (λ c d. (d.consumer ≡ c.consumer)
-        × (words_of d.source ≡ words_of c.source))
-        consumer.old.block.thing consumer.new.block.thing }
-    ensures bad { result ≡ BAD_HANDLE → IsConsumer consumer.old.block.thing → ⊥ }
-    ensures same { result ≡ BAD_HANDLE → consumer.new.block.thing ≡ consumer.old.block.thing }
-    ensures codes { (result ≡ BAD_HANDLE)
-        ⊎ ((answer : Poll) × (answer_told result value.new ≡ Some answer)) }
 {
     let Some(opened) = consumer.lend() else {
         return BAD_HANDLE;
@@ -136,34 +117,16 @@ pub extern "C" fn hz_poll(consumer: &mut Handle, lane: u64, budget: u64, value: 
 #[unsafe(no_mangle)]
 pub extern "C" fn hz_take(consumer: &mut Handle, lane: u64, most: u64, value: &mut u64) -> u32
     // What the code and `value` tell is the result of a take with the next random words of the consumer's source.
-    ensures taken { (answer : Poll) → answer_told result value.new ≡ Some answer
-        → answer ≢ NoLane
-        → ConsumerWent (λ c d. IsTakeOf lane most answer (words_of c.source) (words_of d.source)
-        c.consumer.consumer d.consumer.consumer)
-        consumer.old.block.thing consumer.new.block.thing }
-    ensures spent { result ≡ SPENT → ConsumerWent (λ c d. accesses_made d.consumer.consumer
-        ≡ accesses_made c.consumer.consumer + most)
+    ensures came { (answer : Poll) → answer_told result value.new ≡ Some answer
+        → ConsumerWent (λ c d. TakeCameTo c.consumer.mailbox lane most answer
+        (words_of c.source) (words_of d.source) c.consumer.consumer d.consumer.consumer)
         consumer.old.block.thing consumer.new.block.thing }
     ensures unspent { result ≡ SPENT → ConsumerMade (λ c.
         most ≤ (most_accesses c.consumer.mailbox.claims.layout + 1)
         * (c.consumer.mailbox.cells.size.cells + 1)) consumer.old.block.thing }
-    ensures decided { result ≡ UNDECIDED → ConsumerMade (λ c.
-        (shape_of c.consumer.mailbox.claims.layout).last ≡ false) consumer.old.block.thing }
+    ensures answered { ConsumerAnswered result value.new lane consumer.old.block.thing
+        consumer.new.block.thing }
     ensures kept { result ≢ TOOK → value.new ≡ value.old }
-    ensures told { (answer : Poll) → answer_told result value.new ≡ Some answer
-        → answer ≢ NoLane
-        → ConsumerWent (λ c d.
-        AnswerTells lane (outcome answer) c.consumer.consumer d.consumer.consumer)
-        consumer.old.block.thing consumer.new.block.thing }
-    ensures no_lane { (result ≡ NO_LANE) ↔ ConsumerMade (λ c.
-        c.consumer.mailbox.cells.size.lanes ≤ lane) consumer.old.block.thing }
-    ensures refused { result ≡ NO_LANE
-        → ConsumerWent (λ c d. (d.consumer ≡ c.consumer) × (words_of d.source ≡ words_of c.source))
-        consumer.old.block.thing consumer.new.block.thing }
-    ensures bad { result ≡ BAD_HANDLE → IsConsumer consumer.old.block.thing → ⊥ }
-    ensures same { result ≡ BAD_HANDLE → consumer.new.block.thing ≡ consumer.old.block.thing }
-    ensures codes { (result ≡ BAD_HANDLE)
-        ⊎ ((answer : Poll) × (answer_told result value.new ≡ Some answer)) }
     ensures not_lost { result ≢ LOST }
 {
     let Some(opened) = consumer.lend() else {

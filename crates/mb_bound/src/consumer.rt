@@ -31,13 +31,10 @@ impl<A: Allocator + Drop> Model for BoundConsumer<A> {
 }
 
 impl<A: Allocator + Drop> BoundConsumer<A> {
-    ghost use Rattle.std.specs.Prelude.{◌≡◌, ◌≢◌, ◌↔◌, ◌≤◌, ◌<◌, ◌+◌, ◌*◌, ℕ, true};
-    ghost use Rattle.mb_claim.specs.Vocabulary.{most_accesses, shape_of};
-    ghost use Rattle.mb_mailbox.specs.declared.consumer.Poll.TheVariants.{Lost, NoLane, Spent, Undecided};
+    ghost use Rattle.std.specs.Prelude.{◌≡◌};
+    ghost use Rattle.mb_mailbox.specs.declared.consumer.Poll.TheVariants.{NoLane};
+    ghost use Rattle.mb_mailbox.specs.Came.{PollCameTo, TakeCameTo};
     ghost use Rattle.mb_mailbox.specs.Consumers.{IsConsumerOf};
-    ghost use Rattle.mb_mailbox.specs.Jobs.{accesses_made};
-    ghost use Rattle.mb_mailbox.specs.Steps.{AnswerTells, IsPollOf, outcome};
-    ghost use Rattle.mb_mailbox.specs.Takes.{IsTakeOf};
 
     /// The number of the consumer's mailbox.
     pub fn id(&self) -> u64
@@ -62,18 +59,9 @@ impl<A: Allocator + Drop> BoundConsumer<A> {
 
     /// Makes at most `budget` accesses on a lane, until one of them has a result, as [`Consumer::poll`] does.
     pub fn poll<R: Rng>(&mut self, lane: u64, budget: u64, rng: &mut R) -> Poll
-        ensures no_lane { (result ≡ NoLane) ↔ (self.old.mailbox.cells.size.lanes ≤ lane) }
-        ensures refused { result ≡ NoLane
-            → (self.new ≡ self.old) × (R.stream rng.new ≡ R.stream rng.old) }
-        ensures polled { result ≢ NoLane
-            → IsPollOf lane budget result (R.stream rng.old) (R.stream rng.new) self.old.consumer
-            self.new.consumer }
-        ensures unspent { most_accesses self.old.mailbox.claims.layout + 2 ≤ budget
-            → result ≢ Spent }
-        ensures decided { (shape_of self.old.mailbox.claims.layout).last ≡ true
-            → result ≢ Undecided }
-        ensures told { result ≢ NoLane
-            → AnswerTells lane (outcome result) self.old.consumer self.new.consumer }
+        ensures came { PollCameTo self.old.mailbox lane budget result (R.stream rng.old)
+            (R.stream rng.new) self.old.consumer self.new.consumer }
+        ensures refused { result ≡ NoLane → self.new ≡ self.old }
         ensures id { self.new.id ≡ self.old.id }
         ensures mailbox { self.new.mailbox ≡ self.old.mailbox }
     {
@@ -83,23 +71,9 @@ impl<A: Allocator + Drop> BoundConsumer<A> {
     /// Makes at most `most` accesses on a lane, until it takes an item, as [`Consumer::take`] does. It goes on past items
     /// that it loses.
     pub fn take<R: Rng>(&mut self, lane: u64, most: u64, rng: &mut R) -> Poll
-        ensures no_lane { (result ≡ NoLane) ↔ (self.old.mailbox.cells.size.lanes ≤ lane) }
-        ensures refused { result ≡ NoLane
-            → (self.new ≡ self.old) × (R.stream rng.new ≡ R.stream rng.old) }
-        ensures taken { result ≢ NoLane
-            → IsTakeOf lane most result (R.stream rng.old) (R.stream rng.new) self.old.consumer
-            self.new.consumer }
-        ensures not_lost { (w : ℕ) → result ≢ Lost w }
-        ensures within { accesses_made self.new.consumer
-            ≤ accesses_made self.old.consumer + most }
-        ensures spent { result ≡ Spent
-            → accesses_made self.new.consumer ≡ accesses_made self.old.consumer + most }
-        ensures unspent { (most_accesses self.old.mailbox.claims.layout + 1)
-            * (self.old.mailbox.cells.size.cells + 1) < most → result ≢ Spent }
-        ensures decided { (shape_of self.old.mailbox.claims.layout).last ≡ true
-            → result ≢ Undecided }
-        ensures told { result ≢ NoLane
-            → AnswerTells lane (outcome result) self.old.consumer self.new.consumer }
+        ensures came { TakeCameTo self.old.mailbox lane most result (R.stream rng.old)
+            (R.stream rng.new) self.old.consumer self.new.consumer }
+        ensures refused { result ≡ NoLane → self.new ≡ self.old }
         ensures id { self.new.id ≡ self.old.id }
         ensures mailbox { self.new.mailbox ≡ self.old.mailbox }
     {

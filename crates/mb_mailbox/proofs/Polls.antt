@@ -1,11 +1,11 @@
 -- Steps on a lane, one after another, and the poll that they make.
-use Rattle.std.proofs.Common.{◌≤◌, ◌≡◌, ℕ, ◌+◌, ◌++◌, [], ◌∷◌, append_assoc, refl, sym, ap, ◌∙◌, subst, arith}
+use Rattle.std.proofs.Common.{◌<◌, ◌≤◌, ◌≡◌, ◌≢◌, ℕ, true, ◌+◌, ◌++◌, [], ◌∷◌, append_assoc, refl, sym, ap, ◌∙◌, subst, arith}
 use Rattle.std.specs.Prelude.{Option, None, slice_get}
-use Rattle.mb_mailbox.specs.Imports.{History, ReaderSeatView, SeatView, Stream, ToCells, ToClaims, WorldAccess, WorldHistory, claims_at}
+use Rattle.mb_mailbox.specs.Imports.{History, ReaderSeatView, SeatView, Stream, ToCells, ToClaims, WorldAccess, WorldHistory, claims_at, most_accesses, shape_of}
 use Rattle.mb_mailbox.specs.declared.consumer.Poll.{Poll}
 use Rattle.mb_mailbox.specs.declared.consumer.Poll.TheVariants as poll
 use Rattle.mb_mailbox.specs.Consumers.{ConsumerView, parts_of}
-use Rattle.mb_mailbox.specs.ConsumerStep.{ConsumerStep}
+use Rattle.mb_mailbox.specs.{Came.{CameTo, PollCameTo}, ConsumerStep.ConsumerStep, Mailboxes.MailboxView}
 use Rattle.mb_mailbox.specs.Emptiness.{empty_load}
 use Rattle.mb_mailbox.specs.Steps.{AnswerTells, AreDrawn, AreSteps, HasDone, IsPollOf, IsStep, LeadTo, note_with, outcome, with_note, drawn_words}
 
@@ -87,6 +87,29 @@ poll_of p n budget x s t old new m few all = record {
   drawn = m.drawn;
   within = subst (λ z. z ≤ budget) (sym m.count) few;
   spent = λ e. m.count ∙ all e;
+}
+
+-- ---- what a poll comes to
+-- a poll or a take of a lane that there is came to this answer
+pub came_to : (m : MailboxView) (p : ℕ) (x : Poll) (s t : Stream) (old new : ConsumerView) → p < m.cells.size.lanes
+    → x ≢ poll.NoLane → ((shape_of m.claims.layout).last ≡ true → x ≢ poll.Undecided)
+    → AnswerTells p (outcome x) old new → CameTo m p x s t old new
+came_to m p x s t old new low some decided told = record {
+  no_lane = ((λ e. absurd (some e)), (λ wide. absurd (omega (arith, wide, low))));
+  refused = λ e. absurd (some e);
+  decided = decided;
+  told = λ there. told;
+}
+
+pub poll_came : (m : MailboxView) (p budget : ℕ) (x : Poll) (s t : Stream) (old new : ConsumerView)
+    → p < m.cells.size.lanes → x ≢ poll.NoLane → IsPollOf p budget x s t old new
+    → (most_accesses m.claims.layout + 2 ≤ budget → x ≢ poll.Spent)
+    → ((shape_of m.claims.layout).last ≡ true → x ≢ poll.Undecided)
+    → AnswerTells p (outcome x) old new → PollCameTo m p budget x s t old new
+poll_came m p budget x s t old new low some polled unspent decided told = record {
+  came = came_to m p x s t old new low some decided told;
+  polled = λ there. polled;
+  unspent = unspent;
 }
 
 -- `AnswerTells` from `now` on holds from `old` on, too, if the consumer made no more than these loads in between

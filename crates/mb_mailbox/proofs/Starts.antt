@@ -1,20 +1,21 @@
 -- The fields of a consumer with a claim that it holds on a lane, and accesses of that claim in a poll.
 use Rattle.std.proofs.Common.{◌≡◌, ℕ, zero, suc, ◌+◌, ◌<◌, List, length, sym, ap, ◌∙◌, subst, arith}
-use Rattle.std.specs.Prelude.{Some, None, slice_get, sum_by}
+use Rattle.std.specs.Prelude.{Some, None, slice_get}
 use Rattle.std.proofs.lemmas.List.{length-set}
 use Rattle.mb_claim.specs.declared.access.Stage.TheVariants as stage
 use Rattle.mb_shared_claims.specs.Vocabulary.{AreSeatSteps, IsSeatStep}
-use Rattle.mb_mailbox.specs.Imports.{Claim, ClaimTable, IsClaimIn, Layout, SeatView, Stream, TableSize, claim_stage, consumer_of, next_u64, note_of, part_on}
+use Rattle.mb_mailbox.specs.Imports.{Claim, ClaimTable, Gave, IsClaimIn, Layout, SeatView, Stream, TableSize, claim_stage, consumer_of, next_u64, note_of, part_on}
 use Rattle.mb_world.specs.declared.place.Place.{Place}
 use Rattle.mb_world.specs.declared.place.Place.TheVariants.{At}
 use Rattle.mb_mailbox.specs.declared.consumer.ConsumerFields.{ConsumerFields}
 use Rattle.mb_mailbox.specs.Consumers.{ConsumerView, IsConsumer, IsConsumerOf}
-use Rattle.mb_mailbox.specs.Mailboxes.{MailboxView}
+use Rattle.mb_mailbox.specs.{Laws.Laws, Mailboxes.MailboxView}
 use Rattle.mb_mailbox.specs.Moves.{HasLoads, HasPlace}
 use Rattle.mb_mailbox.specs.NoteLists.{HasAllRoom, HasRoom}
 use Rattle.mb_mailbox.specs.Pursuits.{HasCompeted, holding, with_fields}
 use Rattle.mb_mailbox.specs.Steps.{AreSteps}
 use Rattle.mb_mailbox.proofs.Competing.{IsNext, MovesOn, competed_more, competed_none}
+use Rattle.mb_mailbox.proofs.Holding.{given as found, own_claim, room, turns_made, within as low}
 use Rattle.mb_mailbox.proofs.Lists.{get_some, set_here}
 use Rattle.mb_mailbox.proofs.Moving.{holds}
 
@@ -62,17 +63,34 @@ module _ {Z : Type 0} (m : MailboxView) (pending : PendingClaim) (f : ConsumerFi
   pub here : HasPlace p (At k claim) s
   here = set_here places p (At k claim) there.0 there.1
 
-  -- if there are fewer notes than cells, there is room for one more
-  pub start_room : sum_by length s.notes < f.reader.table.size.cells → HasRoom p f.notes
-  start_room few = record {
+  -- the claim is the consumer's own
+  pub own : consumer_of claim ≡ seat.consumer
+  own = own_claim s p k claim start.held here
+
+  -- one of the consumer's loads found the cell, which is one of the pool
+  pub given : Laws → Gave k f.reader.part
+  given laws = found s p k claim start.held here laws start.loads
+
+  pub within : Laws → k < f.reader.table.size.cells
+  within laws = low s p k claim start.held here laws start.loads
+
+  -- there is room for the claim's note
+  pub has_room : Laws → HasRoom p f.notes
+  has_room laws = record {
     lane = subst (λ n. p < n) (sym (length-set places p (At k claim)) ∙ start.held.places_count
         ∙ sym start.held.notes_count) start.lane;
-    room = let wide = start.wide in omega (arith, few, wide);
+    room =
+        let few = room s p k claim start.held here laws start.loads in
+        let wide = start.wide in omega (arith, few, wide);
   }
 
   -- the consumer's table of claims has the mailbox's layout and number of cells
   pub table : seat.table.size ≡ Some (record { layout = m.claims.layout; cells = m.claims.cells })
   table = ap (λ (t : ClaimTable). t.size) start.belongs.claims
+
+  -- the claim has made the turns of the consumer's part on the cell
+  pub path : IsClaimIn m.claims.layout claim (part_on seat.consumer k seat.part)
+  path = turns_made s p k claim start.held here (record { layout = m.claims.layout; cells = m.claims.cells }) table
 
   -- the claim has no note yet
   pub unnoted : note_of (claim_stage claim) ≡ None
@@ -103,31 +121,29 @@ module _ {Z : Type 0} (m : MailboxView) (pending : PendingClaim) (f : ConsumerFi
 
   -- after several accesses the claim is still the consumer's own
   pub ran_own :
-      (layout : Layout) (u : Stream) → consumer_of claim ≡ seat.consumer
-      → (made : ℕ) (follows : Claim) (after : SeatView) (v : Stream)
+      (layout : Layout) (u : Stream) (made : ℕ) (follows : Claim) (after : SeatView) (v : Stream)
       → AreSeatSteps layout k claim seat u made follows after v → consumer_of follows ≡ after.consumer
-  ran_own layout u own zero follows after v (is, keeps, e) =
+  ran_own layout u zero follows after v (is, keeps, e) =
       ap consumer_of is ∙ own ∙ sym (ap (λ (z : SeatView). z.consumer) keeps)
-  ran_own layout u own (suc made) follows after v (at, before, w, word, older, going, drawn, step, still, stands) =
-      still ∙ ran_own layout u own made at before w older ∙ sym (ap (λ (z : SeatView). z.consumer) step.adds)
+  ran_own layout u (suc made) follows after v (at, before, w, word, older, going, drawn, step, still, stands) =
+      still ∙ ran_own layout u made at before w older ∙ sym (ap (λ (z : SeatView). z.consumer) step.adds)
 
   -- `HasCompeted` holds after several accesses of the claim
   pub ran :
-      MovesOn → IsNext → (now : MailboxView) → now ≡ m → consumer_of claim ≡ seat.consumer
-      → (from : ConsumerView) (n : ℕ) (t u : Stream)
+      MovesOn → IsNext → (now : MailboxView) → now ≡ m → (from : ConsumerView) (n : ℕ) (t u : Stream)
       → AreSteps p n None t u from s → (made : ℕ) (follows : Claim) (after : SeatView) (v : Stream)
       → AreSeatSteps now.claims.layout k claim seat u made follows after v
       → HasCompeted p k (made + n) follows t v from s after
-  ran moves nexts now same own from n t u so zero follows after v (is, keeps, e) =
+  ran moves nexts now same from n t u so zero follows after v (is, keeps, e) =
       let none : n ≡ 0 + n = omega arith in
       subst (λ z. HasCompeted p k z follows t v from s after) none
       (subst (λ c. HasCompeted p k n c t v from s after) (sym is)
       (subst (λ x. HasCompeted p k n claim t v from s x) (sym keeps)
       (subst (λ x. HasCompeted p k n claim t x from s seat) (sym e) (begun from n t u so))))
-  ran moves nexts now same own from n t u so (suc made) follows after v
+  ran moves nexts now same from n t u so (suc made) follows after v
       (at, before, w, word, older, going, drawn, step, still, stands) =
       let count : made + 1 + n ≡ suc made + n = omega arith in
       subst (λ z. HasCompeted p k z follows t v from s after) count
       (stepped moves nexts now same from made n word at follows before after t w v going
-      (ran moves nexts now same own from n t u so made at before w older) step
-      (ran_own now.claims.layout u own made at before w older) still stands drawn)
+      (ran moves nexts now same from n t u so made at before w older) step
+      (ran_own now.claims.layout u made at before w older) still stands drawn)

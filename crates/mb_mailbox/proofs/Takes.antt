@@ -1,8 +1,8 @@
 -- Takes: polls one after another, past the items that are lost.
-use Rattle.std.proofs.Common.{◌≡◌, ◌≢◌, ◌+◌, ◌-◌, ◌*◌, ◌<◌, ◌≤◌, ℕ, List, [], ◌∷◌, ◌++◌, ap, append_assoc, arith, length, subst, sym, ◌∙◌}
+use Rattle.std.proofs.Common.{◌≡◌, ◌≢◌, ◌+◌, ◌-◌, ◌*◌, ◌<◌, ◌≤◌, ℕ, List, [], ◌∷◌, ◌++◌, ap, append_assoc, arith, length, subst, sym, true, ◌∙◌}
 use Rattle.std.specs.Prelude.{Some}
-use Rattle.mb_mailbox.specs.Imports.{Cursor, History, ReaderSeatView, Stream, WorldHistory, pool_accesses}
-use Rattle.mb_mailbox.specs.Consumers.{ConsumerView, IsConsumer, IsConsumerOf}
+use Rattle.mb_mailbox.specs.Imports.{Cursor, History, ReaderSeatView, Stream, WorldHistory, most_accesses, pool_accesses, shape_of}
+use Rattle.mb_mailbox.specs.{Came.TakeCameTo, Consumers.{ConsumerView, IsConsumer, IsConsumerOf}}
 use Rattle.mb_mailbox.specs.Jobs.{accesses_made}
 use Rattle.mb_mailbox.specs.{Mailboxes.MailboxView, NoteLists.HasAllRoom, Pursuits.{at_link, with_fields}}
 use Rattle.mb_mailbox.specs.declared.consumer.ConsumerFields.{ConsumerFields}
@@ -11,10 +11,10 @@ use Rattle.mb_mailbox.specs.Takes.{HasPassed, IsPollOfRest, IsTakeOf}
 use Rattle.mb_mailbox.specs.declared.consumer.Poll.{Poll}
 use Rattle.mb_mailbox.specs.declared.consumer.Poll.TheVariants as poll
 use Rattle.mb_mailbox.proofs.Grown.{grown_by}
-use Rattle.mb_mailbox.proofs.Polls.{told_from}
+use Rattle.mb_mailbox.proofs.Polls.{came_to, told_from}
 
 -- after a poll of what is left, the accesses since `start` are at most `most`. By `spent_by` they are `most` if spent
-pub within_by : (p most : ℕ) (answer : Poll) (s t : Stream) (start old new : ConsumerView)
+within_by : (p most : ℕ) (answer : Poll) (s t : Stream) (start old new : ConsumerView)
     → IsPollOfRest p most answer s t start old new → accesses_made new ≤ accesses_made start + most
 within_by p most answer s t start old new i =
     let few = i.poll.within in
@@ -113,6 +113,21 @@ take_by p most left winners answer s t u start mid new was rest one over tells =
       },
       told_from p (outcome answer) start mid new reads.0 reads.1 tells,
     )
+
+-- a take of a lane that there is came to this answer
+pub take_came : (m : MailboxView) (p most : ℕ) (answer : Poll) (s t : Stream) (old new : ConsumerView)
+    → p < m.cells.size.lanes → answer ≢ poll.NoLane → IsTakeOf p most answer s t old new
+    → ((most_accesses m.claims.layout + 1) * (m.cells.size.cells + 1) < most → answer ≢ poll.Spent)
+    → ((shape_of m.claims.layout).last ≡ true → answer ≢ poll.Undecided)
+    → AnswerTells p (outcome answer) old new → TakeCameTo m p most answer s t old new
+take_came m p most answer s t old new low some take unspent decided told = record {
+  came = came_to m p answer s t old new low some decided told;
+  taken = λ there. take;
+  not_lost = take.over;
+  within = within_by p most answer take.rest t old take.mid new take.last;
+  spent = spent_by p most answer take.rest t old take.mid new take.last;
+  unspent = unspent;
+}
 
 -- ---- items passed while a variable has the cursor
 -- what is left of a budget of `most` with which so many items may be lost, after all but `more` of them

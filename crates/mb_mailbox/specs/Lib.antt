@@ -18,6 +18,7 @@ pub mod Jobs
 pub mod Begun
 pub mod Calls
 pub mod Takes
+pub mod Came
 pub mod Runs
 pub mod Worked
 pub mod Called

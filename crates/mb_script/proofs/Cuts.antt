@@ -1,4 +1,4 @@
--- The words of a line are cut off one by one: the first word, the words cut off so far, and their numbers.
+-- A text is cut at its first end of a part. The words of a line are cut off one by one, and their numbers.
 use Rattle.std.proofs.Common.{append-nil, option_map, ◌≡◌, ℕ, suc, Option, Some, None, ◌+◌, ◌<◌, ◌≤◌, nat_lt, sym, ◌∙◌, Bor, append_assoc, length-append}
 use Rattle.std.proofs.Common.{slice_set, Bool, true, false, cond, nat_eq, List, [], ◌∷◌, ◌++◌, length, take, drop, map, ◌||◌, refl, ap, arith}
 use Rattle.std.specs.Prelude.{not, option_and_then}
@@ -7,42 +7,58 @@ use Rattle.std.proofs.lemmas.List.{length-map, length-take-le, map-append, take_
 use Rattle.std.specs.List.{position_or_len, before_first, after_first, onto_first}
 use Rattle.mb_script.specs.Text.{words_in_line, has_empty, number_of, numbers_of}
 
+-- a text is cut into parts after each byte that ends one. By `more` that goes byte by byte
+module _ (ends : ℕ → Bool) (parts : List ℕ → List (List ℕ))
+    (more : (b : ℕ) (bs : List ℕ) → parts (b ∷ bs) ≡ cond (ends b) ([] ∷ parts bs) (onto_first b (parts bs))) where
+  -- if bs is cut at its first end, so is bs with a byte b in front: b is that first end, or part of the first part
+  cut_step : (b : ℕ) (bs : List ℕ) (t : Bool) → cond (not t) (1 + position_or_len ends bs) 0 < suc (length bs)
+      → (position_or_len ends bs < length bs → parts bs ≡ before_first ends bs ∷ parts (after_first ends bs))
+      → cond t ([] ∷ parts bs) (onto_first b (parts bs))
+      ≡ take (cond (not t) (1 + position_or_len ends bs) 0) (b ∷ bs)
+      ∷ parts (drop (cond (not t) (1 + position_or_len ends bs) 0 + 1) (b ∷ bs))
+  cut_step b bs true within rest = refl
+  cut_step b bs false within rest =
+      let n = position_or_len ends bs in
+      let one : 1 + n ≡ suc n = omega arith in
+      let two : 1 + n + 1 ≡ suc (n + 1) = omega arith in
+      let cut = rest (omega arith) in
+      rw (cut, two, one) refl
+
+  -- if a text has an end, its first part stands before the first end, and its other parts are those of the rest
+  pub parts_cut : (bs : List ℕ) → position_or_len ends bs < length bs
+      → parts bs ≡ before_first ends bs ∷ parts (after_first ends bs)
+  parts_cut [] within = absurd (omega arith)
+  parts_cut (b ∷ bs) within = more b bs ∙ cut_step b bs (ends b) within (parts_cut bs)
+
+  -- a text with no end stays its only part if a byte that is no end is put in front
+  last_step : ((b : ℕ) → onto_first b (parts []) ≡ (b ∷ []) ∷ []) → (b : ℕ) (bs : List ℕ) (t : Bool)
+      → cond (not t) (1 + position_or_len ends bs) 0 ≡ suc (length bs)
+      → (position_or_len ends bs ≡ length bs → 0 < length bs → parts bs ≡ bs ∷ [])
+      → cond t ([] ∷ parts bs) (onto_first b (parts bs)) ≡ (b ∷ bs) ∷ []
+  last_step first b bs true none rest = absurd (omega arith)
+  last_step first b [] false none rest = first b
+  last_step first b (x ∷ bs) false none rest = ap (onto_first b) (rest (omega arith) (omega arith))
+
+  -- if a text has no end and is not empty, it is its only part
+  pub parts_last : ((b : ℕ) → onto_first b (parts []) ≡ (b ∷ []) ∷ []) → (bs : List ℕ)
+      → position_or_len ends bs ≡ length bs → 0 < length bs → parts bs ≡ bs ∷ []
+  parts_last first [] none some = absurd (omega arith)
+  parts_last first (b ∷ bs) none some = more b bs ∙ last_step first b bs (ends b) none (parts_last first bs)
+
+-- ---- the words of a line
 -- whether a byte parts words: it is a space
 abbrev pub is_space : ℕ → Bool
 is_space b = nat_eq b 32
 
--- if bs is cut at its first space, so is bs with a byte b in front: b is that first space, or part of the first word
-cut_step : (b : ℕ) (bs : List ℕ) (t : Bool) → cond (not t) (1 + position_or_len is_space bs) 0 < suc (length bs)
-    → (position_or_len is_space bs < length bs → words_in_line bs ≡ before_first is_space bs
-    ∷ words_in_line (after_first is_space bs))
-    → cond t ([] ∷ words_in_line bs) (onto_first b (words_in_line bs))
-    ≡ take (cond (not t) (1 + position_or_len is_space bs) 0) (b ∷ bs)
-    ∷ words_in_line (drop (cond (not t) (1 + position_or_len is_space bs) 0 + 1) (b ∷ bs))
-cut_step b bs true within rest = refl
-cut_step b bs false within rest =
-    let n = position_or_len is_space bs in
-    let one : 1 + n ≡ suc n = omega arith in
-    let two : 1 + n + 1 ≡ suc (n + 1) = omega arith in
-    let cut = rest (omega arith) in
-    rw (cut, two, one) refl
-
 -- if a line has a space, its first word stands before the first space, and its other words are those of the rest
 pub words_cut : (bs : List ℕ) → position_or_len is_space bs < length bs
     → words_in_line bs ≡ before_first is_space bs ∷ words_in_line (after_first is_space bs)
-words_cut [] within = absurd (omega arith)
-words_cut (b ∷ bs) within = cut_step b bs (nat_eq b 32) within (words_cut bs)
-
--- a line with no space stays its only word if a byte that is no space is put in front
-last_step : (b : ℕ) (bs : List ℕ) (t : Bool) → cond (not t) (1 + position_or_len is_space bs) 0 ≡ suc (length bs)
-    → (position_or_len is_space bs ≡ length bs → words_in_line bs ≡ bs ∷ [])
-    → cond t ([] ∷ words_in_line bs) (onto_first b (words_in_line bs)) ≡ (b ∷ bs) ∷ []
-last_step b bs true none rest = absurd (omega arith)
-last_step b bs false none rest = ap (onto_first b) (rest (omega arith))
+words_cut = parts_cut is_space words_in_line (λ b bs. refl)
 
 -- if a line has no space, it is its only word
 pub words_last : (bs : List ℕ) → position_or_len is_space bs ≡ length bs → words_in_line bs ≡ bs ∷ []
 words_last [] none = refl
-words_last (b ∷ bs) none = last_step b bs (nat_eq b 32) none (words_last bs)
+words_last (b ∷ bs) none = parts_last is_space words_in_line (λ c cs. refl) (λ c. refl) (b ∷ bs) none (omega arith)
 
 -- a line that has a word has one, too, with one byte more in front
 first_step : (b : ℕ) (ws : List (List ℕ)) (t : Bool) → 0 < length ws → 0 < length (cond t ([] ∷ ws) (onto_first b ws))

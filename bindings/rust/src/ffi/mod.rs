@@ -22,7 +22,7 @@
 //!
 //! - `hz_gather`: `main_theorem`, which is that of `Mailbox::gather`. One assignment explains the whole report: each item put
 //!   goes to at most one consumer, which takes its items in the order put, and each that was not taken is left, once.
-//! - `hz_poll`: `polled`, and `hz_take`: `taken`. The answer is that of the poll, or of the last of the take's polls. So a
+//! - `hz_poll` and `hz_take`: `came` (`polled`, `taken`). The answer is that of the poll, or of the last of the take's polls. So a
 //!   consumer is told `HZ_TOOK` of an item exactly if it gets the note of it, which the report has.
 //! - `hz_put`: `linked` and `full`. An item is put by `HZ_LINKED` alone. After `HZ_FULL` it is in no lane.
 //!

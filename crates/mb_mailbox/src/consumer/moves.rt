@@ -42,6 +42,8 @@ fn laws_hold()
 
 /// What a consumer's place on a lane lets it do, and what the consumer is after an access there.
 pub(super) fn consumers_move_on()
+    ensures laws { Laws }
+
     // Before a link the consumer may load that link.
     ensures may_look { (s : ConsumerView) (p : ℕ) (at : Cursor) → IsConsumer s → HasLoads s
         → HasPlace p (Before at) s
@@ -61,23 +63,8 @@ pub(super) fn consumers_move_on()
         → HasTurns s claim []
         → IsConsumer (moved_to p (At k claim) None (reads_with_link s at (k + 1)) s.seat.part s) }
 
-    // A claim that the consumer holds is its own, and has made the turns of its part there. It goes on or is won. Its
-    // cell is one of the pool, which a load gave. There is room for one more note.
-    ensures own { (s : ConsumerView) (p k : ℕ) (claim : Claim) → IsConsumer s
-        → HasPlace p (At k claim) s → consumer_of claim ≡ s.seat.consumer }
-    ensures turns { (s : ConsumerView) (p k : ℕ) (claim : Claim) → IsConsumer s
-        → HasPlace p (At k claim) s → HasTurns s claim (part_on s.seat.consumer k s.seat.part) }
-    ensures going { (s : ConsumerView) (p k : ℕ) (claim : Claim) → IsConsumer s
-        → HasPlace p (At k claim) s → claim_stage claim ≢ stage.Won
-        → claim_stage claim ≡ stage.Going }
-    ensures given { (s : ConsumerView) (p k : ℕ) (claim : Claim) → IsConsumer s → HasLoads s
-        → HasPlace p (At k claim) s → Gave k s.reader.part }
-    ensures within { (s : ConsumerView) (p k : ℕ) (claim : Claim) → IsConsumer s → HasLoads s
-        → HasPlace p (At k claim) s → k < s.reader.table.size.cells }
-    ensures room { (s : ConsumerView) (p k : ℕ) (claim : Claim) → IsConsumer s → HasLoads s
-        → HasPlace p (At k claim) s → sum_by length s.notes < s.reader.table.size.cells }
-
-    // After an access of that claim, the claim's stage determines the consumer's place, and its note if it has one.
+    // After an access of a claim that the consumer holds, the claim's stage determines the consumer's place, and its
+    // note if it has one.
     ensures competes { (s : ConsumerView) (p k word seen : ℕ) (claim now : Claim) (next : ClaimOp)
         → IsConsumer s → HasLoads s → HasPlace p (At k claim) s
         → consumer_of now ≡ s.seat.consumer

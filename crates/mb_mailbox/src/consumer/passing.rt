@@ -1,13 +1,13 @@
 //! Goes past items that are lost, if each cell has a last object alone. Then a claim is one exchange. A variable has
 //! the cursor meanwhile, and the consumer's place on the lane is out of date.
-ghost use Rattle.std.specs.Prelude.{ℕ, ◌≡◌, ◌≢◌, ◌+◌, ◌<◌, List, [], ◌∷◌, IfSome, None};
+ghost use Rattle.std.specs.Prelude.{ℕ, ◌≡◌, ◌≢◌, ◌+◌, ◌<◌, [], ◌∷◌, None};
 ghost use Rattle.arrayvec.specs.ArrayVec.{array_vec_len};
 ghost use Rattle.mb_cells.specs.declared.cursor.Cursor.TheVariants.{Past};
 ghost use Rattle.mb_deciding.specs.declared.object.Kind.TheVariants.{LastObject};
 ghost use Rattle.mb_mailbox.specs.Imports.{Claim, IsStanding, Stream, kinds_of};
-ghost use Rattle.mb_mailbox.specs.ConsumerWords.{AnswerTells, AreSteps, ConsumerView, HasAllRoom, HasPlace, IsBeforeObject, IsConsumer, IsConsumerOf};
+ghost use Rattle.mb_mailbox.specs.ConsumerWords.{AreSteps, ConsumerView, HasAllRoom, HasPlace, IsBeforeObject, IsConsumer, IsConsumerOf};
 ghost use Rattle.mb_mailbox.specs.ConsumerWords.{IsPursuit, at_link, claim_takes, holding, with_fields};
-ghost use Rattle.mb_mailbox.specs.{Jobs.{accesses_made}, Steps.{outcome}, Takes.{HasPassed, IsTakeOf}};
+ghost use Rattle.mb_mailbox.specs.Came.{HasGonePast};
 ghost use Rattle.mb_mailbox.specs.declared.consumer.Poll.TheVariants as poll;
 ghost use Rattle.mb_world.specs.declared.place.Place.TheVariants.{Before};
 
@@ -90,21 +90,8 @@ pub(super) fn pass<A: Allocator + Drop, B: Allocator + Drop, R: Rng>(
     requires belongs { IsConsumerOf mailbox.now (with_fields fields.old) }
     requires wide { HasAllRoom fields.old.reader.table.size.cells fields.old.notes }
     requires alone { kinds_of mailbox.now.claims.layout ≡ LastObject ∷ [] }
-
-    // If it returns no answer, it lost each item that it met, and `left` is what is left of the budget.
-    ensures passed { result ≡ None → (winners : List ℕ)
-        × HasPassed lane left.old winners (R.stream rng.old) (R.stream rng.new)
+    ensures gone { HasGonePast lane left.old left.new result (R.stream rng.old) (R.stream rng.new)
         (with_fields fields.old) (with_fields fields.new) }
-    ensures left { result ≡ None → accesses_made (with_fields fields.new) + left.new
-        ≡ accesses_made (with_fields fields.old) + left.old }
-
-    // If it returns an answer, its polls make a take with that answer, which is not `NoLane` and not `Undecided`.
-    ensures taken { IfSome result (λ answer.
-        IsTakeOf lane left.old answer (R.stream rng.old) (R.stream rng.new)
-        (with_fields fields.old) (with_fields fields.new)
-        × AnswerTells lane (outcome answer) (with_fields fields.old) (with_fields fields.new)) }
-    ensures decided { IfSome result (λ answer. (answer ≢ poll.NoLane)
-        × (answer ≢ poll.Undecided)) }
     ensures is { IsConsumer (with_fields fields.new) }
     ensures belongs { IsConsumerOf mailbox.now (with_fields fields.new) }
     ensures wide { HasAllRoom fields.new.reader.table.size.cells fields.new.notes }

@@ -12,12 +12,10 @@ use rand_core::Rng;
 use std::alloc::Allocator;
 
 impl<A: Allocator + Drop> Consumer<A> {
-    ghost use Rattle.std.specs.Prelude.{◌≡◌, ◌≢◌, ◌↔◌, ◌<◌, ◌≤◌, ◌+◌, true, None, IfSome};
-    ghost use Rattle.mb_claim.specs.Vocabulary.{most_accesses, shape_of};
-    ghost use Rattle.mb_mailbox.specs.declared.consumer.Poll.TheVariants.{NoLane, Spent, Undecided};
+    ghost use Rattle.std.specs.Prelude.{◌≡◌, ◌<◌, ◌≤◌, ◌+◌, None, IfSome};
+    ghost use Rattle.mb_mailbox.specs.Came.{PollCameTo};
     ghost use Rattle.mb_mailbox.specs.Consumers.{IsConsumerOf};
     ghost use Rattle.mb_mailbox.specs.Jobs.{accesses_made};
-    ghost use Rattle.mb_mailbox.specs.Steps.{AnswerTells, IsPollOf, outcome};
 
     /// Makes accesses on a lane until one has a result, or until it has made as many as the budget allows. Lanes count
     /// from 0. It draws one word from the source for each access of a claim. A claim that the budget cuts short is kept,
@@ -32,21 +30,8 @@ impl<A: Allocator + Drop> Consumer<A> {
         rng: &mut R,
     ) -> Poll
         requires belongs { IsConsumerOf mailbox.now self.old }
-        ensures no_lane { (result ≡ NoLane) ↔ (mailbox.now.cells.size.lanes ≤ lane) }
-        ensures refused { result ≡ NoLane
-            → (self.new ≡ self.old) × (R.stream rng.new ≡ R.stream rng.old) }
-
-        // Each access is the next one on that lane, and the first that comes to an answer is the last.
-        ensures polled { result ≢ NoLane
-            → IsPollOf lane budget result (R.stream rng.old) (R.stream rng.new) self.old self.new }
-
-        // With a budget for a whole claim, its link and its item, the poll is never spent. So it leaves no claim held
-        // on the lane (`told: noted`). If each cell has a last object, the answer is never `Undecided`.
-        ensures unspent { most_accesses mailbox.now.claims.layout + 2 ≤ budget → result ≢ Spent }
-        ensures decided { (shape_of mailbox.now.claims.layout).last ≡ true → result ≢ Undecided }
-
-        // What the answer says of the lane. It says more if the producer was returned before the consumer was issued.
-        ensures told { result ≢ NoLane → AnswerTells lane (outcome result) self.old self.new }
+        ensures came { PollCameTo mailbox.now lane budget result (R.stream rng.old)
+            (R.stream rng.new) self.old self.new }
         ensures belongs { IsConsumerOf mailbox.now self.new }
     {
         let mut left = budget;
@@ -89,13 +74,9 @@ impl<A: Allocator + Drop> Consumer<A> {
     ) -> Poll
         requires belongs { IsConsumerOf mailbox.now self.old }
         requires lane { lane < mailbox.now.cells.size.lanes }
-        ensures some { result ≢ NoLane }
-        ensures polled { IsPollOf lane left.old result (R.stream rng.old) (R.stream rng.new)
-            self.old self.new }
+        ensures came { PollCameTo mailbox.now lane left.old result (R.stream rng.old)
+            (R.stream rng.new) self.old self.new }
         ensures left { accesses_made self.new + left.new ≡ accesses_made self.old + left.old }
-        ensures unspent { most_accesses mailbox.now.claims.layout + 2 ≤ left.old → result ≢ Spent }
-        ensures decided { (shape_of mailbox.now.claims.layout).last ≡ true → result ≢ Undecided }
-        ensures told { AnswerTells lane (outcome result) self.old self.new }
         ensures belongs { IsConsumerOf mailbox.now self.new }
     {
         if *left == 0 {

@@ -3,10 +3,10 @@
 use Rattle.mb_shared_cells.proofs.PutMoves.{PutLaws, end_puts, full_found, full_puts}
 use Rattle.mb_shared_cells.proofs.laws.full_offers_and_end_marks_put_nothing.Goals as goal
 
--- in each clause `laws` are the laws of `mb_cells` that the lemmas of `PutMoves` take
-pub returns-clause-full : goal.returns-clause-full
-returns-clause-full c = λ old new x made.
-    let laws : PutLaws = record {
+-- the laws of `mb_cells` that the lemmas of `PutMoves` take
+laws : goal.After-put_lists_grow → PutLaws
+laws c =
+    record {
       own = c.accesses_lengthen_one_part.ensures.own;
       older = c.history_extends.ensures.older;
       told = c.parts_tell_lanes.ensures.put;
@@ -14,21 +14,13 @@ returns-clause-full c = λ old new x made.
       fetched = c.put_lists_grow.ensures.fetch;
       item = c.put_lists_grow.ensures.item;
       end = c.put_lists_grow.ensures.end;
-    } in
-    full_puts laws old new x made
+    }
+
+pub returns-clause-full : goal.returns-clause-full
+returns-clause-full c = λ old new x made. full_puts (laws c) old new x made
 
 pub returns-clause-found : goal.returns-clause-found
 returns-clause-found c = full_found
 
 pub returns-clause-ended : goal.returns-clause-ended
-returns-clause-ended c = λ old new made.
-    let laws : PutLaws = record {
-      own = c.accesses_lengthen_one_part.ensures.own;
-      older = c.history_extends.ensures.older;
-      told = c.parts_tell_lanes.ensures.put;
-      link = c.put_lists_grow.ensures.link;
-      fetched = c.put_lists_grow.ensures.fetch;
-      item = c.put_lists_grow.ensures.item;
-      end = c.put_lists_grow.ensures.end;
-    } in
-    end_puts laws old new made
+returns-clause-ended c = λ old new made. end_puts (laws c) old new made

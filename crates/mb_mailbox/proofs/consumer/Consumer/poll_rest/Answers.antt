@@ -1,5 +1,5 @@
 use Rattle.std.proofs.Common.{[], ◌≡◌, ◌∙◌, ◌+◌, ◌-◌, ◌<◌, ◌≤◌, ◌≢◌, ◌⊎◌, ℕ, List, ap, arith, inl, inr, refl, subst, sym}
-use Rattle.std.specs.Prelude.{None, Some, slice_set}
+use Rattle.std.specs.Prelude.{None, Option, Some, slice_set}
 use Rattle.std.proofs.lemmas.Option.{slice_get_within}
 use Rattle.mb_cells.specs.declared.answer.Look.TheVariants as look
 use Rattle.mb_mailbox.specs.declared.consumer.Poll.TheVariants as poll
@@ -8,14 +8,14 @@ use Rattle.mb_world.specs.declared.place.Place.{Place, TheVariants.At, TheVarian
 use Rattle.mb_mailbox.specs.Imports.{Claim, END, IsAccessAfter, IsClaimIn, IsStanding, Look, MayRead, PoolSize, ReaderSeatView, TableSize, consumer_count, load, word_of}
 use Rattle.mb_mailbox.specs.Consumers.{ConsumerView, IsConsumer, IsConsumerOf}
 use Rattle.mb_mailbox.specs.{ConsumerStep.link_answer, Jobs.accesses_made, Mailboxes.MailboxView}
-use Rattle.mb_mailbox.specs.Steps.{AnswerTells, AreSteps, IsPollOf, note_with}
+use Rattle.mb_mailbox.specs.{Came.PollCameTo, declared.consumer.Poll.Poll, Steps.{AnswerTells, AreSteps, note_with, outcome}}
 use Rattle.mb_mailbox.specs.{Moves.{HasPlace, reads_with_link}, Pursuits.{IsPursuit, with_fields}}
 use Rattle.mb_mailbox.proofs.Beginnings.{standing_going, standing_own}
-use Rattle.mb_mailbox.proofs.Ending.{left_by, not_no_lane, poll_by, pursuit_tells, still_of}
+use Rattle.mb_mailbox.proofs.Ending.{left_by, pursuit_came, still_of}
 use Rattle.mb_mailbox.proofs.Grown.{steps_grow}
 use Rattle.mb_mailbox.proofs.Lists.{set_same, some_same}
 use Rattle.mb_mailbox.proofs.Made.{at_views, cells_size, claims_size, known_in, look_made, moved_has}
-use Rattle.mb_mailbox.proofs.Polls.{no_steps, history_extends, poll_of}
+use Rattle.mb_mailbox.proofs.{Polls.{no_steps, history_extends, poll_came, poll_of}, Telling.tells_none}
 use Rattle.mb_mailbox.proofs.consumer.Consumer.poll_rest.{Given.Over, Goals.After-consumer, Goals.After-look}
 use Rattle.mb_mailbox.proofs.consumer.Consumer.poll_rest.Goals as goal
 
@@ -60,6 +60,28 @@ module _ (g : Over) (c : After-look g) where
       (look_made seen c.args.self.now c.args.lane c.in-Before.at c.look.new.seat places l (link_answer l) c.self.view_is
       m refl quiet (λ v. c.places_tell_steps.ensures.looks seen c.args.lane v c.in-Before.at c.self.invariant.0
       place_is) (g.R.Rng.stream c.args.rng.now))
+
+  -- if the link leads to no cell, the load is the poll, and `look_count` says what it leaves of the budget
+  look_count : (l : Look) → LookMakes seen.reader c.in-Before.at l c.look.new.seat → note_with (link_answer l) ≡ None
+      → accesses_made looked + (c.args.left.now - 1) ≡ accesses_made c.args.self.now + c.args.left.now
+  look_count l m quiet =
+      let grown = steps_grow c.args.lane 1 (link_answer l) (g.R.Rng.stream c.args.rng.now)
+      (g.R.Rng.stream c.args.rng.now) c.args.self.now looked (look_steps seen.places l m quiet) in
+      omega (arith, grown, c.if-left-eq0.false)
+
+  look_came : (l : Look) (x : Poll) → LookMakes seen.reader c.in-Before.at l c.look.new.seat
+      → note_with (link_answer l) ≡ None → link_answer l ≡ outcome x
+      → x ≢ poll.NoLane → x ≢ poll.Spent → x ≢ poll.Undecided → AnswerTells c.args.lane (link_answer l) seen looked
+      → PollCameTo c.args.mailbox.now c.args.lane c.args.left.now x (g.R.Rng.stream c.args.rng.now)
+      (g.R.Rng.stream c.args.rng.now) c.args.self.now looked
+  look_came l x m quiet is some unspent over tells =
+      let words = g.R.Rng.stream c.args.rng.now in
+      poll_came c.args.mailbox.now c.args.lane c.args.left.now x words words c.args.self.now looked c.requires.lane some
+      (poll_of c.args.lane 1 c.args.left.now x words words c.args.self.now looked
+      (subst (λ y. AreSteps c.args.lane 1 y words words c.args.self.now looked) is (look_steps seen.places l m quiet))
+      (omega (arith, c.if-left-eq0.false)) (λ e. absurd (unspent e))) (λ more. unspent) (λ last. over)
+      (subst (λ (z : Option Poll × ConsumerView). AnswerTells c.args.lane z.0 z.1 looked)
+      (λ j. (is j, c.self.view_is j)) tells)
 
   -- if the link leads to no cell, `IsConsumer` still holds, and there still is room for a note on each cell
   waits : (v : ℕ) → (v ≡ 0) ⊎ (v ≡ END)
@@ -114,23 +136,30 @@ run_held-requires-clause-held g c = record {
   place = c.place_at.ensures ∙ ap (λ (z : Place). Some z) c.in-At.is;
 }
 
+pub returns-then-left-eq0-clause-came : goal.returns-then-left-eq0-clause-came
+returns-then-left-eq0-clause-came g c =
+    let none = c.if-left-eq0.true in
+    let words = g.R.Rng.stream c.args.rng.now in
+    let old = c.args.self.now in
+    poll_came c.args.mailbox.now c.args.lane c.args.left.now poll.Spent words words old old c.requires.lane (λ e. cc)
+    (poll_of c.args.lane 0 c.args.left.now poll.Spent words words old old (no_steps c.args.lane words old)
+    (omega arith) (λ e. omega (arith, none))) (λ more. absurd (omega (arith, more, none))) (λ last e. cc)
+    (tells_none c.args.lane old old)
+
 pub invariant_of-self : goal.invariant_of-self
 invariant_of-self g c = ((goes_on g c).is, c.run_held.ensures.wide)
 
-pub returns-in-At-clause-polled : goal.returns-in-At-clause-polled
-returns-in-At-clause-polled g c =
+pub returns-in-At-clause-came : goal.returns-in-At-clause-came
+returns-in-At-clause-came g c =
     let sum : c.args.left.now + 0 ≡ c.args.left.now = omega arith in
-    subst (λ o. IsPollOf c.args.lane c.args.left.now c.run_held.result
-    (g.R.Rng.stream c.args.rng.now) (g.R.Rng.stream c.run_held.new.rng) o (past_claim g c)) c.self.view_is
-    (poll_by c.args.lane 0 c.args.left.now c.run_held.new.left c.args.left.now c.run_held.result
-    (g.R.Rng.stream c.args.rng.now) (g.R.Rng.stream c.run_held.new.rng) (at_claim g c) (past_claim g c) sum
-    (goes_on g c))
-
-pub returns-in-At-clause-told : goal.returns-in-At-clause-told
-returns-in-At-clause-told g c =
-    pursuit_tells c.args.lane 0 c.args.left.now c.run_held.new.left c.run_held.result
-    (g.R.Rng.stream c.args.rng.now)
-    (g.R.Rng.stream c.run_held.new.rng) (at_claim g c) c.args.self.now (past_claim g c) (goes_on g c)
+    pursuit_came c.args.mailbox.now c.args.lane 0 c.args.left.now c.run_held.new.left c.args.left.now c.run_held.result
+    (g.R.Rng.stream c.args.rng.now) (g.R.Rng.stream c.run_held.new.rng) (at_claim g c) c.args.self.now (past_claim g c)
+    c.requires.lane sum c.self.view_is (goes_on g c)
+    (λ more spent.
+    let few = c.run_held.ensures.few c.in-At.cell c.in-At.claim
+    (c.place_at.ensures ∙ ap (λ (z : Place). Some z) c.in-At.is) spent
+    in absurd (omega (arith, more, few)))
+    c.run_held.ensures.decided
 
 pub returns-in-At-clause-belongs : goal.returns-in-At-clause-belongs
 returns-in-At-clause-belongs g c =
@@ -155,21 +184,16 @@ invariant_of-self-in-Nothing g c =
     waits g (goal.at.invariant_of-self-in-Nothing g c).After-look m.0
     (inl (c.looks_tell_links.ensures.nothing m.0 (sym m.1))) m.2.1
 
-pub returns-in-Nothing-clause-polled : goal.returns-in-Nothing-clause-polled
-returns-in-Nothing-clause-polled g c =
-    let at = (goal.at.returns-in-Nothing-clause-polled g c).After-look in
-    let some = c.if-left-eq0.false in
-    poll_of c.args.lane 1 c.args.left.now poll.Nothing (g.R.Rng.stream c.args.rng.now)
-    (g.R.Rng.stream c.args.rng.now) c.args.self.now (looked g at)
-    (look_steps g at c.self.inside.fields.places.items look.Nothing c.in-Nothing.ensures.makes refl)
-    (omega (arith, some)) (λ f. absurd (cc))
-
-pub returns-in-Nothing-clause-told : goal.returns-in-Nothing-clause-told
-returns-in-Nothing-clause-told g c =
-    let at = (goal.at.returns-in-Nothing-clause-told g c).After-look in
-    subst (λ o. AnswerTells c.args.lane (Some poll.Nothing) o (looked g at)) c.self.view_is
+pub returns-in-Nothing-clause-came : goal.returns-in-Nothing-clause-came
+returns-in-Nothing-clause-came g c =
+    let at = (goal.at.returns-in-Nothing-clause-came g c).After-look in
+    look_came g at look.Nothing poll.Nothing c.in-Nothing.ensures.makes refl refl (λ e. cc) (λ e. cc) (λ e. cc)
     (c.answers_tell_lanes.ensures.nothing (seen g at) c.args.lane c.in-Before.at c.look.new.seat
     c.self.invariant.0 c.has_history.ensures (place_is g at) c.in-Nothing.ensures.makes)
+
+pub returns-in-Nothing-clause-left : goal.returns-in-Nothing-clause-left
+returns-in-Nothing-clause-left g c =
+    look_count g (goal.at.returns-in-Nothing-clause-left g c).After-look look.Nothing c.in-Nothing.ensures.makes refl
 
 pub invariant_of-self-in-Ended : goal.invariant_of-self-in-Ended
 invariant_of-self-in-Ended g c =
@@ -177,21 +201,16 @@ invariant_of-self-in-Ended g c =
     waits g (goal.at.invariant_of-self-in-Ended g c).After-look m.0
     (inr (c.looks_tell_links.ensures.ended m.0 (sym m.1))) m.2.1
 
-pub returns-in-Ended-clause-polled : goal.returns-in-Ended-clause-polled
-returns-in-Ended-clause-polled g c =
-    let at = (goal.at.returns-in-Ended-clause-polled g c).After-look in
-    let some = c.if-left-eq0.false in
-    poll_of c.args.lane 1 c.args.left.now poll.Ended (g.R.Rng.stream c.args.rng.now)
-    (g.R.Rng.stream c.args.rng.now) c.args.self.now (looked g at)
-    (look_steps g at c.self.inside.fields.places.items look.Ended c.in-Ended.ensures.makes refl) (omega (arith, some))
-    (λ f. absurd (cc))
-
-pub returns-in-Ended-clause-told : goal.returns-in-Ended-clause-told
-returns-in-Ended-clause-told g c =
-    let at = (goal.at.returns-in-Ended-clause-told g c).After-look in
-    subst (λ o. AnswerTells c.args.lane (Some poll.Ended) o (looked g at)) c.self.view_is
+pub returns-in-Ended-clause-came : goal.returns-in-Ended-clause-came
+returns-in-Ended-clause-came g c =
+    let at = (goal.at.returns-in-Ended-clause-came g c).After-look in
+    look_came g at look.Ended poll.Ended c.in-Ended.ensures.makes refl refl (λ e. cc) (λ e. cc) (λ e. cc)
     (c.answers_tell_lanes.ensures.ended (seen g at) c.args.lane c.in-Before.at c.look.new.seat
     c.self.invariant.0 c.has_history.ensures (place_is g at) c.in-Ended.ensures.makes)
+
+pub returns-in-Ended-clause-left : goal.returns-in-Ended-clause-left
+returns-in-Ended-clause-left g c =
+    look_count g (goal.at.returns-in-Ended-clause-left g c).After-look look.Ended c.in-Ended.ensures.makes refl
 
 pub run_new-requires-clause-held : goal.run_new-requires-clause-held
 run_new-requires-clause-held g c =
@@ -227,42 +246,21 @@ run_new-requires-clause-held g c =
 pub invariant_of-self-2 : goal.invariant_of-self-2
 invariant_of-self-2 g c = ((goes_on_new g c).is, c.run_new.ensures.wide)
 
-pub returns-clause-polled : goal.returns-clause-polled
-returns-clause-polled g c =
+pub returns-clause-came : goal.returns-clause-came
+returns-clause-came g c =
     let some = c.if-left-eq0.false in
     let sum : c.args.left.now - 1 + 1 ≡ c.args.left.now = omega (arith, some) in
-    poll_by c.args.lane 1 (c.args.left.now - 1) c.run_new.new.left c.args.left.now c.run_new.result
-    (g.R.Rng.stream c.args.rng.now) (g.R.Rng.stream c.run_new.new.rng) c.args.self.now (past_new g c) sum
-    (goes_on_new g c)
-
-pub returns-clause-told : goal.returns-clause-told
-returns-clause-told g c =
-    pursuit_tells c.args.lane 1 (c.args.left.now - 1) c.run_new.new.left c.run_new.result
-    (g.R.Rng.stream c.args.rng.now)
-    (g.R.Rng.stream c.run_new.new.rng) c.args.self.now c.args.self.now (past_new g c) (goes_on_new g c)
+    pursuit_came c.args.mailbox.now c.args.lane 1 (c.args.left.now - 1) c.run_new.new.left c.args.left.now
+    c.run_new.result (g.R.Rng.stream c.args.rng.now) (g.R.Rng.stream c.run_new.new.rng) c.args.self.now c.args.self.now
+    (past_new g c) c.requires.lane sum refl (goes_on_new g c)
+    (λ more spent. let few = c.run_new.ensures.few spent in absurd (omega (arith, more, few, some)))
+    c.run_new.ensures.decided
 
 pub returns-clause-belongs : goal.returns-clause-belongs
 returns-clause-belongs g c =
     still_of c.args.mailbox.now c.args.lane 1 (c.args.left.now - 1) c.run_new.new.left c.run_new.result
     (g.R.Rng.stream c.args.rng.now) (g.R.Rng.stream c.run_new.new.rng) c.args.self.now (past_new g c)
     (goes_on_new g c) c.requires.belongs
-
-pub returns-in-At-clause-unspent : goal.returns-in-At-clause-unspent
-returns-in-At-clause-unspent g c = λ more spent.
-    let few = c.run_held.ensures.few c.in-At.cell c.in-At.claim
-    (c.place_at.ensures ∙ ap (λ (z : Place). Some z) c.in-At.is) spent
-    in absurd (omega (arith, more, few))
-
-pub returns-in-At-clause-decided : goal.returns-in-At-clause-decided
-returns-in-At-clause-decided g c = c.run_held.ensures.decided
-
-pub returns-clause-unspent : goal.returns-clause-unspent
-returns-clause-unspent g c = λ more spent.
-    let few = c.run_new.ensures.few spent in let some = c.if-left-eq0.false
-    in absurd (omega (arith, more, few, some))
-
-pub returns-clause-decided : goal.returns-clause-decided
-returns-clause-decided g c = c.run_new.ensures.decided
 
 pub returns-in-At-clause-left : goal.returns-in-At-clause-left
 returns-in-At-clause-left g c =
@@ -272,38 +270,10 @@ returns-in-At-clause-left g c =
     (goes_on g c) in
     left ∙ ap (λ s. accesses_made s + c.args.left.now) c.self.view_is
 
-pub returns-in-At-clause-some : goal.returns-in-At-clause-some
-returns-in-At-clause-some g c =
-    not_no_lane c.args.lane 0 c.args.left.now c.run_held.new.left c.run_held.result
-    (g.R.Rng.stream c.args.rng.now)
-    (g.R.Rng.stream c.run_held.new.rng) (at_claim g c) (past_claim g c) (goes_on g c)
-
-pub returns-in-Nothing-clause-left : goal.returns-in-Nothing-clause-left
-returns-in-Nothing-clause-left g c =
-    let at = (goal.at.returns-in-Nothing-clause-left g c).After-look in
-    let grown = steps_grow c.args.lane 1 (Some poll.Nothing) (g.R.Rng.stream c.args.rng.now)
-    (g.R.Rng.stream c.args.rng.now) c.args.self.now (looked g at)
-    (look_steps g at c.self.inside.fields.places.items look.Nothing c.in-Nothing.ensures.makes refl) in
-    omega (arith, grown, c.if-left-eq0.false)
-
-pub returns-in-Ended-clause-left : goal.returns-in-Ended-clause-left
-returns-in-Ended-clause-left g c =
-    let at = (goal.at.returns-in-Ended-clause-left g c).After-look in
-    let grown = steps_grow c.args.lane 1 (Some poll.Ended) (g.R.Rng.stream c.args.rng.now)
-    (g.R.Rng.stream c.args.rng.now) c.args.self.now (looked g at)
-    (look_steps g at c.self.inside.fields.places.items look.Ended c.in-Ended.ensures.makes refl) in
-    omega (arith, grown, c.if-left-eq0.false)
-
 pub returns-clause-left : goal.returns-clause-left
 returns-clause-left g c =
     let some = c.if-left-eq0.false in
     let sum : c.args.left.now - 1 + 1 ≡ c.args.left.now = omega (arith, some) in
     left_by c.args.lane 1 (c.args.left.now - 1) c.run_new.new.left c.args.left.now c.run_new.result
     (g.R.Rng.stream c.args.rng.now) (g.R.Rng.stream c.run_new.new.rng) c.args.self.now (past_new g c) sum
-    (goes_on_new g c)
-
-pub returns-clause-some : goal.returns-clause-some
-returns-clause-some g c =
-    not_no_lane c.args.lane 1 (c.args.left.now - 1) c.run_new.new.left c.run_new.result
-    (g.R.Rng.stream c.args.rng.now) (g.R.Rng.stream c.run_new.new.rng) c.args.self.now (past_new g c)
     (goes_on_new g c)

@@ -79,14 +79,15 @@ cell_here size here link bound is same wide low few =
     subst (λ n. look_of link ≡ look.Cell n) one (rw (ne_eqb link 0 some, ne_eqb link END real) refl)
 
 -- the answer of a link that leads to no cell is an outcome, and no loss
-idle : (l : Look) (x : Poll) → link_answer l ≡ Some x
-    → (outcome x ≡ link_answer l) × (x ≢ poll.Spent) × ((w : ℕ) → x ≢ poll.Lost w) × (None ≢ Some x)
-idle look.Nothing x e = subst (λ y. (outcome y ≡ Some poll.Nothing) × (y ≢ poll.Spent)
-    × ((w : ℕ) → y ≢ poll.Lost w) × (None ≢ Some y)) (some_same poll.Nothing x e)
-    (refl, (λ f. cc), (λ w f. cc), (λ f. cc))
-idle look.Ended x e = subst (λ y. (outcome y ≡ Some poll.Ended) × (y ≢ poll.Spent)
-    × ((w : ℕ) → y ≢ poll.Lost w) × (None ≢ Some y)) (some_same poll.Ended x e)
-    (refl, (λ f. cc), (λ w f. cc), (λ f. cc))
+abbrev IsIdle : Look → Poll → Type 0
+IsIdle l x = (outcome x ≡ link_answer l) × (x ≢ poll.Spent) × ((w : ℕ) → x ≢ poll.Lost w) × (None ≢ Some x)
+    × (x ≢ poll.NoLane) × (x ≢ poll.Undecided)
+
+idle : (l : Look) (x : Poll) → link_answer l ≡ Some x → IsIdle l x
+idle look.Nothing x e = subst (IsIdle look.Nothing) (some_same poll.Nothing x e)
+    (refl, (λ f. cc), (λ w f. cc), (λ f. cc), (λ f. cc), (λ f. cc))
+idle look.Ended x e = subst (IsIdle look.Ended) (some_same poll.Ended x e)
+    (refl, (λ f. cc), (λ w f. cc), (λ f. cc), (λ f. cc), (λ f. cc))
 idle (look.Cell k) x e = absurd (cc)
 
 -- after the load of a link
@@ -303,13 +304,18 @@ answer_at-requires g c k e =
     let few = c.meet-link.ensures.few in
     absurd (omega (arith, low, from, cells, high, few))
 
-pub returns-then-cell-from-clause-taken : goal.returns-then-cell-from-clause-taken
-returns-then-cell-from-clause-taken g c =
-    let at = (goal.at.returns-then-cell-from-clause-taken g c).After-meet-link in
-    let is = idle (look_of c.meet-link.result) c.answer_at.result c.answer_at.ensures in
-    look_ends g at c.stop.result (with_fields c.stop.new.fields) (ap outcome c.stop.ensures.answer ∙ is.0)
-    (λ e. is.1 (sym c.stop.ensures.answer ∙ e)) (λ w e. is.2 w (sym c.stop.ensures.answer ∙ e)) c.stop.ensures.view
-    (λ e. is.3 (sym e ∙ c.answer_at.ensures))
+pub returns-then-cell-from-clause-gone : goal.returns-then-cell-from-clause-gone
+returns-then-cell-from-clause-gone g c =
+    let at = (goal.at.returns-then-cell-from-clause-gone g c).After-meet-link in
+    let is = subst (IsIdle (look_of c.meet-link.result)) (sym c.stop.ensures.answer)
+    (idle (look_of c.meet-link.result) c.answer_at.result c.answer_at.ensures) in
+    record {
+      passed = λ e. absurd (cc);
+      left = λ e. absurd (cc);
+      taken = look_ends g at c.stop.result (with_fields c.stop.new.fields) is.0 is.1 is.2 c.stop.ensures.view
+          (λ e. is.3 (sym e ∙ c.answer_at.ensures ∙ ap (λ x. Some x) (sym c.stop.ensures.answer)));
+      decided = (is.4, is.5);
+    }
 
 pub returns-then-cell-from-clause-is : goal.returns-then-cell-from-clause-is
 returns-then-cell-from-clause-is g c =
@@ -328,13 +334,15 @@ returns-in_default g c =
     ∙ ap (λ (z : Cursor). at_link c.args.lane z (with_fields c.settle.new.fields)) c.past-at.ensures in
     let so = pursued g at 0 in
     record {
-      passed = λ e. absurd (cc);
-      left = λ e. absurd (cc);
-      taken = claim_ends g at x new same c.in_default.not-Lost view;
-      decided = (
-        λ e. subst IsOfClaim (sym same ∙ e) so.kind,
-        λ e. c.settle.ensures.ends.1 (sym same ∙ e),
-      );
+      gone = record {
+        passed = λ e. absurd (cc);
+        left = λ e. absurd (cc);
+        taken = claim_ends g at x new same c.in_default.not-Lost view;
+        decided = (
+          λ e. subst IsOfClaim (sym same ∙ e) so.kind,
+          λ e. c.settle.ensures.ends.1 (sym same ∙ e),
+        );
+      };
       is = subst IsConsumer (sym view) so.is;
       belongs = subst (λ z. IsConsumerOf c.args.mailbox.now z) (sym view) (still g at);
       wide = subst (λ (z : ReaderSeatView × NotesView). HasAllRoom z.0.table.size.cells z.1)

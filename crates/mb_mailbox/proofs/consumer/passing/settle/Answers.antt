@@ -1,39 +1,29 @@
 -- Proof of `settle`: makes the exchange of a new claim, and loads the item if the claim is won.
 use Rattle.std.proofs.Common.{◌≡◌, ◌∙◌, ◌+◌, ◌<◌, ◌≤◌, ℕ, arith, ap, refl, subst, sym}
-use Rattle.std.specs.Prelude.{None, Some, slice_get, slice_set}
+use Rattle.std.specs.Prelude.{None, Some, slice_set}
 use Rattle.mb_claim.specs.declared.access.Stage.TheVariants as stage
 use Rattle.mb_cells.specs.declared.cursor.Cursor.TheVariants.{Past}
 use Rattle.mb_mailbox.specs.declared.consumer.Poll.TheVariants as poll
-use Rattle.mb_world.specs.declared.place.Place.{Place, TheVariants.At, TheVariants.Before}
-use Rattle.mb_mailbox.specs.Imports.{AreSeatSteps, CellsName, Claim, Gave, IsClaimIn, IsStanding, Lost, ReaderSeatView, SeatView, Stream, TableSize, Took}
+use Rattle.mb_world.specs.declared.place.Place.{TheVariants.Before}
+use Rattle.mb_mailbox.specs.Imports.{AreSeatSteps, CellsName, Claim, IsStanding, Lost, ReaderSeatView, SeatView, Stream, Took}
 use Rattle.mb_mailbox.specs.Imports.{kinds_of, name_of, part_on}
 use Rattle.mb_deciding.specs.declared.object.Kind.TheVariants.{LastObject}
 use Rattle.std.proofs.Common.{[], ◌∷◌}
-use Rattle.mb_mailbox.specs.ConsumerWords.{AreSteps, ConsumerView, HasPlace, HasRoom, holding, with_fields}
+use Rattle.mb_mailbox.specs.ConsumerWords.{AreSteps, ConsumerView, holding, with_fields}
 use Rattle.mb_mailbox.specs.Mailboxes.{MailboxView}
 use Rattle.mb_mailbox.specs.Pursuits.{HasCompeted}
 use Rattle.mb_mailbox.proofs.Beginnings.{standing_fresh, standing_same}
 use Rattle.mb_mailbox.proofs.Made.{room_stays}
 use Rattle.mb_mailbox.proofs.Pursuing.{pursued_past}
-use Rattle.mb_mailbox.proofs.Starts.{PendingClaim, Start, here, ran, start_room, table, there}
+use Rattle.mb_mailbox.proofs.Starts.{PendingClaim, Start, given, has_room, path, ran, there, within}
 use Rattle.mb_mailbox.proofs.Taking.{IsOneAccess, only_won, taken}
 use Rattle.mb_mailbox.proofs.consumer.passing.settle.{Given.Over, Goals.After-has_history, Goals.After-exchange-stage}
 use Rattle.mb_mailbox.proofs.consumer.passing.settle.Goals as goal
 
--- the consumer with these fields, and with a new claim at its place on the lane
+-- the fields of a consumer, with a new claim that its place on the lane does not have yet
 module _ (g : Over) (c : After-has_history g) where
-  -- `claim` begins the first object, `base` is a consumer of these fields, and `with_claim` holds the claim
-  abbrev claim : Claim
-  claim = c.requires.held.claim
-
   abbrev pending : PendingClaim
-  pending = record { lane = c.args.lane; cell = c.args.cell; claim = claim }
-
-  abbrev base : ConsumerView
-  base = with_fields c.args.fields.now
-
-  abbrev with_claim : ConsumerView
-  with_claim = holding c.args.lane c.args.cell claim base
+  pending = record { lane = c.args.lane; cell = c.args.cell; claim = c.requires.held.claim }
 
   -- `Start` holds: the consumer with these fields is the mailbox's, and holds this claim
   start : Start c.args.mailbox.now pending c.args.fields.now
@@ -44,32 +34,6 @@ module _ (g : Over) (c : After-has_history g) where
     wide = c.requires.wide;
     loads = c.has_history.ensures;
   }
-
-  -- the consumer stands at the claim
-  stands : HasPlace c.args.lane (At c.args.cell claim) with_claim
-  stands = here c.args.mailbox.now pending c.args.fields.now start
-
-  -- one of the consumer's loads found the cell
-  given : Gave c.args.cell c.args.fields.now.reader.part
-  given = c.consumers_move_on.ensures.given with_claim c.args.lane c.args.cell claim start.held start.loads stands
-
-  -- there is room for the claim's note
-  has_room : HasRoom c.args.lane c.args.fields.now.notes
-  has_room = start_room c.args.mailbox.now pending c.args.fields.now start
-      (c.consumers_move_on.ensures.room with_claim c.args.lane c.args.cell claim start.held start.loads stands)
-
-  -- the lane has some place
-  was_there : (place : Place) × (slice_get c.args.fields.now.places.items c.args.lane ≡ Some place)
-  was_there = there c.args.mailbox.now pending c.args.fields.now start
-
-  -- the claim has made all that its consumer did on the cell
-  begun : IsClaimIn c.args.mailbox.now.claims.layout claim
-      (part_on c.args.fields.now.seat.consumer c.args.cell c.args.fields.now.seat.part)
-  begun =
-      let m = c.args.mailbox.now in
-      let z : TableSize = record { layout = m.claims.layout; cells = m.claims.cells } in
-      c.consumers_move_on.ensures.turns with_claim c.args.lane c.args.cell claim start.held stands z
-      (table m pending c.args.fields.now start)
 
 -- after the exchange
 module _ (g : Over) (c : After-exchange-stage g) (start : Start c.args.mailbox.now
@@ -124,12 +88,10 @@ module _ (g : Over) (c : After-exchange-stage g) (start : Start c.args.mailbox.n
       let layout = c.args.mailbox.now.claims.layout in
       let d = c.args.fields.now.seat.consumer in
       let pending : PendingClaim = record { lane = c.args.lane; cell = c.args.cell; claim = first } in
-      let own = c.consumers_move_on.ensures.own held c.args.lane c.args.cell first start.held
-      (here c.args.mailbox.now pending c.args.fields.now start) in
       let same = standing_same layout d 0 d other is first c.requires.held.standing in
       let begins = standing_same layout d 0 d one.0 one.1 first c.requires.held.standing in
       ran c.args.mailbox.now pending c.args.fields.now start c.consumers_move_on.ensures.competes
-      c.places_tell_steps.ensures.competes c.args.mailbox.now refl own from n t (g.R.Rng.stream c.args.rng.now)
+      c.places_tell_steps.ensures.competes c.args.mailbox.now refl from n t (g.R.Rng.stream c.args.rng.now)
       (subst (λ (z : Claim). AreSteps c.args.lane n None t (g.R.Rng.stream c.args.rng.now) from
       (holding c.args.lane c.args.cell z (with_fields c.args.fields.now))) same m)
       1 last c.exchange-stage.new.seat (g.R.Rng.stream c.next_u64.new.self)
@@ -139,8 +101,8 @@ module _ (g : Over) (c : After-exchange-stage g) (start : Start c.args.mailbox.n
 pub exchange-stage-requires : goal.exchange-stage-requires
 exchange-stage-requires g c =
     let at = (goal.at.exchange-stage-requires g c).After-has_history in
-    let low = c.consumers_move_on.ensures.within (with_claim g at) c.args.lane c.args.cell (claim g at)
-    c.requires.held.is c.has_history.ensures (stands g at) in
+    let low = within c.args.mailbox.now (pending g at)
+    c.args.fields.now (start g at) c.consumers_move_on.ensures.laws in
     let cells : c.args.fields.now.reader.table.size.cells ≡ c.mailbox.inside.claims.cells =
     ap (λ (n : CellsName). n.size.cells) (c.requires.belongs.cells
     ∙ sym (ap (λ (v : MailboxView). v.cells) c.mailbox.view_is)) ∙ sym c.mailbox.invariant.0.cells in
@@ -151,21 +113,25 @@ exchange-stage-requires g c =
           c.requires.alone;
       consumer = c.requires.number;
       fresh = standing_fresh c.args.mailbox.now.claims.layout c.args.fields.now.seat.consumer
-          c.args.fields.now.seat.consumer (claim g at) c.requires.held.standing
-          (part_on c.args.fields.now.seat.consumer c.args.cell c.args.fields.now.seat.part) (begun g at);
+          c.args.fields.now.seat.consumer c.requires.held.claim c.requires.held.standing
+          (part_on c.args.fields.now.seat.consumer c.args.cell c.args.fields.now.seat.part)
+          (path c.args.mailbox.now (pending g at) c.args.fields.now (start g at));
     }
 
 pub push-requires : goal.push-requires
-push-requires g c = has_room g (goal.at.push-requires g c).After-has_history
+push-requires g c =
+    let at = (goal.at.push-requires g c).After-has_history in
+    has_room c.args.mailbox.now (pending g at) c.args.fields.now (start g at) c.consumers_move_on.ensures.laws
 
 pub returns-in-Lost : goal.returns-in-Lost
 returns-in-Lost g c =
     let at = goal.at.returns-in-Lost g c in
     let s = start g at.After-has_history in
-    let was = was_there g at.After-has_history in
+    let was = there c.args.mailbox.now (pending g at.After-has_history)
+    c.args.fields.now (start g at.After-has_history) in
     let w = c.in-Lost.winner in
     record {
-      pursued = λ from n left t other is m. pursued_past (base g at.After-has_history) c.args.lane c.args.cell
+      pursued = λ from n left t other is m. pursued_past (with_fields c.args.fields.now) c.args.lane c.args.cell
           c.requires.held.claim (1 + left) left 1 n (last g at.After-exchange-stage s)
           (stage.Lost w) (Lost w) (poll.Lost w) t
           (g.R.Rng.stream c.next_u64.new.self) from c.exchange-stage.new.seat
@@ -185,22 +151,25 @@ item-item-requires g c =
     let at = (goal.at.item-item-requires g c).After-has_history in
     record {
       table = c.requires.belongs.cells ∙ sym (ap (λ (v : MailboxView). v.cells) c.mailbox.view_is);
-      may = given g at;
+      may = given c.args.mailbox.now (pending g at) c.args.fields.now (start g at) c.consumers_move_on.ensures.laws;
     }
 
 pub push-requires-in_default : goal.push-requires-in_default
-push-requires-in_default g c = has_room g (goal.at.push-requires-in_default g c).After-has_history
+push-requires-in_default g c =
+    let at = (goal.at.push-requires-in_default g c).After-has_history in
+    has_room c.args.mailbox.now (pending g at) c.args.fields.now (start g at) c.consumers_move_on.ensures.laws
 
 pub returns-in_default : goal.returns-in_default
 returns-in_default g c =
     let at = goal.at.returns-in_default g c in
     let s = start g at.After-has_history in
-    let was = was_there g at.After-has_history in
+    let was = there c.args.mailbox.now (pending g at.After-has_history)
+    c.args.fields.now (start g at.After-has_history) in
     let e = one g at.After-exchange-stage s in
     let won = only_won c.exchange-stage.result c.exchange-stage.ensures.ended c.exchange-stage.ensures.decided
     c.in_default.not-Lost in
     record {
-      pursued = λ from n left t other is m. taken (base g at.After-has_history) c.args.lane c.args.cell
+      pursued = λ from n left t other is m. taken (with_fields c.args.fields.now) c.args.lane c.args.cell
           c.requires.held.claim c.places_tell_steps.ensures.takes c.consumers_move_on.ensures.takes s.loads
           c.item-item.result (last g at.After-exchange-stage s) c.exchange-stage.new.seat c.item-item.new.seat
           (slice_set c.args.fields.now.places.items c.args.lane (Before (Past c.args.cell)))

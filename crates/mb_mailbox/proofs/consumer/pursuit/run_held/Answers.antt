@@ -6,16 +6,16 @@ use Rattle.arrayvec.specs.ArrayVec.{with_items}
 use Rattle.mb_cells.specs.declared.cursor.Cursor.TheVariants.{Past}
 use Rattle.mb_mailbox.specs.declared.consumer.Poll.TheVariants as poll
 use Rattle.mb_world.specs.declared.place.Place.{Place, TheVariants.At, TheVariants.Before}
-use Rattle.mb_mailbox.specs.Imports.{AreSeatSteps, CellsName, Claim, Gave, IsClaimIn, ItemMakes, Lost, ReaderSeatView, SeatView, Stream, TableSize}
+use Rattle.mb_mailbox.specs.Imports.{AreSeatSteps, CellsName, Claim, IsClaimIn, ItemMakes, Lost, ReaderSeatView, SeatView, Stream}
 use Rattle.mb_mailbox.specs.Imports.{Note, Took, Undecided, claim_stage, most_accesses, name_of, part_on, shape_of}
-use Rattle.mb_mailbox.specs.ConsumerWords.{AreSteps, ConsumerView, HasPlace, HasRoom, IsConsumer}
+use Rattle.mb_mailbox.specs.ConsumerWords.{AreSteps, ConsumerView, HasPlace, IsConsumer}
 use Rattle.mb_mailbox.specs.Pursuits.{HasCompeted, IsPursuit, holding, with_fields}
 use Rattle.mb_mailbox.specs.{Mailboxes.MailboxView, Steps.with_note}
-use Rattle.mb_mailbox.proofs.{Ending.holds_it, Taking.taken}
+use Rattle.mb_mailbox.proofs.{Ending.holds_it, Holding.goes_on, Taking.taken}
 use Rattle.mb_mailbox.proofs.Lists.{set_twice, some_same}
 use Rattle.mb_mailbox.proofs.Made.{at_views, room_stays}
 use Rattle.mb_mailbox.proofs.Pursuing.{pursued_past, pursued_spent}
-use Rattle.mb_mailbox.proofs.Starts.{PendingClaim, Start, begun, here, ran, start_room, table}
+use Rattle.mb_mailbox.proofs.Starts.{PendingClaim, Start, begun, given, has_room, own, path, ran, table, unnoted, within}
 use Rattle.mb_mailbox.proofs.consumer.pursuit.run_held.{Given.Over, Goals.After-compete-stage, Goals.After-has_history-2, Goals.After-stage}
 use Rattle.mb_mailbox.proofs.consumer.pursuit.run_held.Goals as goal
 
@@ -83,20 +83,6 @@ module _ (g : Over) (c : After-stage g) where
     loads = c.has_history.ensures;
   }
 
-  stands : HasPlace c.args.lane (At c.in-At.cell c.in-At.claim) with_claim
-  stands = here c.args.mailbox.now pending c.args.fields.now start
-
-  -- one of the consumer's loads found the cell
-  given : Gave c.in-At.cell c.args.fields.now.reader.part
-  given = c.consumers_move_on.ensures.given with_claim c.args.lane c.in-At.cell c.in-At.claim
-      start.held start.loads stands
-
-  -- there is room for the claim's note
-  has_room : HasRoom c.args.lane c.args.fields.now.notes
-  has_room = start_room c.args.mailbox.now pending c.args.fields.now start
-      (c.consumers_move_on.ensures.room with_claim c.args.lane c.in-At.cell c.in-At.claim
-      start.held start.loads stands)
-
   -- steps that led to `base` led to `with_claim`
   led : (from : ConsumerView) (n : ℕ) (t u : Stream) → AreSteps c.args.lane n None t u from base
       → AreSteps c.args.lane n None t u from with_claim
@@ -146,11 +132,9 @@ module _ (g : Over) (c : After-compete-stage g) (start : Start c.args.mailbox.no
       → HasCompeted c.args.lane c.in-At.cell (made + n) c.compete-stage.new.claim t
       (g.R.Rng.stream c.compete-stage.new.rng) from held c.compete-stage.new.seat
   ran_on from n t m =
-      let own = c.consumers_move_on.ensures.own held c.args.lane c.in-At.cell c.in-At.claim start.held
-      (here c.args.mailbox.now claim_now c.args.fields.now start) in
       ran c.args.mailbox.now claim_now c.args.fields.now start c.consumers_move_on.ensures.competes
       c.places_tell_steps.ensures.competes (record { cells = c.mailbox.inside.cells; claims = c.mailbox.inside.claims })
-      c.mailbox.view_is own from n t (g.R.Rng.stream c.args.rng.now) m made c.compete-stage.new.claim
+      c.mailbox.view_is from n t (g.R.Rng.stream c.args.rng.now) m made c.compete-stage.new.claim
       c.compete-stage.new.seat (g.R.Rng.stream c.compete-stage.new.rng) c.compete-stage.ensures.steps.2
 
   -- if no budget is left, as many accesses were made as there was budget
@@ -186,10 +170,14 @@ few_made g c start none k claim at is =
 -- The clauses in `Won` are of a claim that was won before. The others are of its stage after the accesses made here:
 -- won with an access left (`then-left-ne0`) or with none, going, lost or undecided
 pub take-requires-clause-may : goal.take-requires-clause-may
-take-requires-clause-may g c = given g (goal.at.take-requires-clause-may g c).After-stage
+take-requires-clause-may g c =
+    let at = (goal.at.take-requires-clause-may g c).After-stage in
+    given c.args.mailbox.now (pending g at) c.args.fields.now (start g at) c.consumers_move_on.ensures.laws
 
 pub take-requires-clause-room : goal.take-requires-clause-room
-take-requires-clause-room g c = has_room g (goal.at.take-requires-clause-room g c).After-stage
+take-requires-clause-room g c =
+    let at = (goal.at.take-requires-clause-room g c).After-stage in
+    has_room c.args.mailbox.now (pending g at) c.args.fields.now (start g at) c.consumers_move_on.ensures.laws
 
 pub returns-in-Won-clause-pursued : goal.returns-in-Won-clause-pursued
 returns-in-Won-clause-pursued g c =
@@ -211,23 +199,19 @@ compete-stage-requires g c =
     let at = (goal.at.compete-stage-requires g c).After-stage in
     let m = c.args.mailbox.now in
     let f = c.args.fields.now in
-    let z : TableSize = record { layout = m.claims.layout; cells = m.claims.cells } in
-    let turns = c.consumers_move_on.ensures.turns (with_claim g at) c.args.lane c.in-At.cell c.in-At.claim
-    (start g at).held (stands g at) z (table m (pending g at) f (start g at)) in
-    let low = c.consumers_move_on.ensures.within (with_claim g at) c.args.lane c.in-At.cell
-    c.in-At.claim (start g at).held c.has_history.ensures (stands g at) in
+    let low = within m (pending g at) f (start g at) c.consumers_move_on.ensures.laws in
     let cells : f.reader.table.size.cells ≡ c.mailbox.inside.claims.cells =
     ap (λ (n : CellsName). n.size.cells) (c.requires.belongs.cells
     ∙ sym (ap (λ (v : MailboxView). v.cells) c.mailbox.view_is)) ∙ sym c.mailbox.invariant.0.cells in
     record {
       table = c.requires.belongs.claims ∙ sym (ap (λ (v : MailboxView). name_of v.claims) c.mailbox.view_is);
       cell = subst (λ n. c.in-At.cell < n) cells low;
-      consumer = c.consumers_move_on.ensures.own (with_claim g at) c.args.lane c.in-At.cell c.in-At.claim
-          (start g at).held (stands g at);
+      consumer = own m (pending g at) f (start g at);
       standing = subst (λ (y : MailboxView). IsClaimIn y.claims.layout c.in-At.claim
-          (part_on f.seat.consumer c.in-At.cell f.seat.part)) (sym c.mailbox.view_is) turns;
-      going = c.consumers_move_on.ensures.going (with_claim g at) c.args.lane c.in-At.cell c.in-At.claim
-          (start g at).held (stands g at) (λ won. c.in_default.not-Won (c.stage.ensures ∙ won));
+          (part_on f.seat.consumer c.in-At.cell f.seat.part)) (sym c.mailbox.view_is)
+          (path m (pending g at) f (start g at));
+      going = goes_on (claim_stage c.in-At.claim) (unnoted m (pending g at) f (start g at))
+          (λ won. c.in_default.not-Won (c.stage.ensures ∙ won));
     }
 
 pub take-requires-then-left-ne0 : goal.take-requires-then-left-ne0
@@ -235,9 +219,9 @@ take-requires-then-left-ne0 g c =
     let at = (goal.at.take-requires-then-left-ne0 g c).After-stage in
     record {
       table = c.requires.belongs.cells;
-      may = given g at;
+      may = given c.args.mailbox.now (pending g at) c.args.fields.now (start g at) c.consumers_move_on.ensures.laws;
       place = still_lane g at (At c.in-At.cell c.compete-stage.new.claim);
-      room = has_room g at;
+      room = has_room c.args.mailbox.now (pending g at) c.args.fields.now (start g at) c.consumers_move_on.ensures.laws;
     }
 
 pub returns-then-left-ne0 : goal.returns-then-left-ne0
@@ -318,7 +302,8 @@ leave-requires g c =
     let at = goal.at.leave-requires g c in
     record {
       place = still_lane g at.After-stage (At c.in-At.cell c.compete-stage.new.claim);
-      room = has_room g at.After-stage;
+      room = has_room c.args.mailbox.now (pending g at.After-stage)
+          c.args.fields.now (start g at.After-stage) c.consumers_move_on.ensures.laws;
     }
 
 pub returns-in-Lost : goal.returns-in-Lost
@@ -350,7 +335,8 @@ leave-requires-in-Undecided g c =
     let at = goal.at.leave-requires-in-Undecided g c in
     record {
       place = still_lane g at.After-stage (At c.in-At.cell c.compete-stage.new.claim);
-      room = has_room g at.After-stage;
+      room = has_room c.args.mailbox.now (pending g at.After-stage)
+          c.args.fields.now (start g at.After-stage) c.consumers_move_on.ensures.laws;
     }
 
 pub returns-in-Undecided : goal.returns-in-Undecided

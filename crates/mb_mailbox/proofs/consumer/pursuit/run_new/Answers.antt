@@ -1,36 +1,26 @@
 use Rattle.std.proofs.Common.{◌≡◌, ◌∙◌, ◌+◌, ◌-◌, ◌≢◌, ◌<◌, ◌≤◌, ℕ, List, true, arith, ap, refl, subst, sym}
-use Rattle.std.specs.Prelude.{None, Some, slice_get, slice_set}
+use Rattle.std.specs.Prelude.{None, Some, slice_set}
 use Rattle.mb_claim.specs.declared.access.Stage.TheVariants as stage
 use Rattle.mb_mailbox.specs.declared.consumer.Poll.TheVariants as poll
 use Rattle.mb_world.specs.declared.place.Place.{Place, TheVariants.At}
-use Rattle.mb_mailbox.specs.Imports.{AreSeatSteps, CellsName, Claim, Gave, IsClaimIn, IsStanding, Layout, Lost, ReaderSeatView, SeatView, Stream, TableSize, Took}
+use Rattle.mb_mailbox.specs.Imports.{AreSeatSteps, CellsName, Claim, IsStanding, Layout, Lost, ReaderSeatView, SeatView, Stream, Took}
 use Rattle.mb_mailbox.specs.Imports.{Undecided, claim_stage, consumer_count, name_of, part_on, shape_of}
-use Rattle.mb_mailbox.specs.ConsumerWords.{AreSteps, ConsumerView, HasPlace, IsConsumer, HasRoom, holding, with_fields}
+use Rattle.mb_mailbox.specs.ConsumerWords.{AreSteps, ConsumerView, IsConsumer, holding, with_fields}
 use Rattle.mb_mailbox.specs.Mailboxes.{MailboxView}
 use Rattle.mb_mailbox.specs.Pursuits.{HasCompeted}
 use Rattle.mb_mailbox.proofs.Beginnings.{standing_fresh, standing_going, standing_same}
 use Rattle.mb_mailbox.proofs.Made.{room_stays}
 use Rattle.mb_mailbox.proofs.Polls.{no_steps}
 use Rattle.mb_mailbox.proofs.Pursuing.{pursued_past}
-use Rattle.mb_mailbox.proofs.Starts.{PendingClaim, Start, here, ran, start_room, table, there}
+use Rattle.mb_mailbox.proofs.Starts.{PendingClaim, Start, given, has_room, path, ran, there, within}
 use Rattle.mb_mailbox.proofs.Taking.{AreStraight, pursued_on, some_made, still_consumer, still_steps, taken}
 use Rattle.mb_mailbox.proofs.consumer.pursuit.run_new.{Given.Over, Goals.After-has_history, Goals.After-straight-end}
 use Rattle.mb_mailbox.proofs.consumer.pursuit.run_new.Goals as goal
 
--- the consumer with these fields, and with a new claim at its place on the lane
+-- the fields of a consumer, with a new claim that its place on the lane does not have yet
 module _ (g : Over) (c : After-has_history g) where
-  -- `claim` begins the first object, `base` is a consumer of these fields, and `with_claim` holds the claim
-  abbrev claim : Claim
-  claim = c.requires.held.claim
-
   abbrev pending : PendingClaim
-  pending = record { lane = c.args.lane; cell = c.args.cell; claim = claim }
-
-  abbrev base : ConsumerView
-  base = with_fields c.args.fields.now
-
-  abbrev with_claim : ConsumerView
-  with_claim = holding c.args.lane c.args.cell claim base
+  pending = record { lane = c.args.lane; cell = c.args.cell; claim = c.requires.held.claim }
 
   -- `Start` holds: the consumer with these fields is the mailbox's, and holds this claim
   start : Start c.args.mailbox.now pending c.args.fields.now
@@ -41,32 +31,6 @@ module _ (g : Over) (c : After-has_history g) where
     wide = c.requires.wide;
     loads = c.has_history.ensures;
   }
-
-  -- the consumer stands at the claim
-  stands : HasPlace c.args.lane (At c.args.cell claim) with_claim
-  stands = here c.args.mailbox.now pending c.args.fields.now start
-
-  -- one of the consumer's loads found the cell
-  given : Gave c.args.cell c.args.fields.now.reader.part
-  given = c.consumers_move_on.ensures.given with_claim c.args.lane c.args.cell claim start.held start.loads stands
-
-  -- there is room for the claim's note
-  has_room : HasRoom c.args.lane c.args.fields.now.notes
-  has_room = start_room c.args.mailbox.now pending c.args.fields.now start
-      (c.consumers_move_on.ensures.room with_claim c.args.lane c.args.cell claim start.held start.loads stands)
-
-  -- the lane has some place
-  was_there : (place : Place) × (slice_get c.args.fields.now.places.items c.args.lane ≡ Some place)
-  was_there = there c.args.mailbox.now pending c.args.fields.now start
-
-  -- the claim has made all that its consumer did on the cell
-  begun : IsClaimIn c.args.mailbox.now.claims.layout claim
-      (part_on c.args.fields.now.seat.consumer c.args.cell c.args.fields.now.seat.part)
-  begun =
-      let m = c.args.mailbox.now in
-      let z : TableSize = record { layout = m.claims.layout; cells = m.claims.cells } in
-      c.consumers_move_on.ensures.turns with_claim c.args.lane c.args.cell claim start.held stands z
-      (table m pending c.args.fields.now start)
 
 -- after the straight accesses
 module _ (g : Over) (c : After-straight-end g) (start : Start c.args.mailbox.now
@@ -133,11 +97,9 @@ module _ (g : Over) (c : After-straight-end g) (start : Start c.args.mailbox.now
   ran_on from n t other is m =
       let d = c.args.fields.now.seat.consumer in
       let pending : PendingClaim = record { lane = c.args.lane; cell = c.args.cell; claim = first } in
-      let own = c.consumers_move_on.ensures.own held c.args.lane c.args.cell first start.held
-      (here c.args.mailbox.now pending c.args.fields.now start) in
       let same = standing_same c.args.mailbox.now.claims.layout d 0 d other is first c.requires.held.standing in
       ran c.args.mailbox.now pending c.args.fields.now start c.consumers_move_on.ensures.competes
-      c.places_tell_steps.ensures.competes c.args.mailbox.now refl own from n t (g.R.Rng.stream c.args.rng.now)
+      c.places_tell_steps.ensures.competes c.args.mailbox.now refl from n t (g.R.Rng.stream c.args.rng.now)
       (subst (λ (z : Claim). AreSteps c.args.lane n None t (g.R.Rng.stream c.args.rng.now) from
       (holding c.args.lane c.args.cell z (with_fields c.args.fields.now))) same m)
       made last c.straight-end.new.seat (g.R.Rng.stream c.straight-end.new.rng)
@@ -146,8 +108,8 @@ module _ (g : Over) (c : After-straight-end g) (start : Start c.args.mailbox.now
 pub straight-end-requires : goal.straight-end-requires
 straight-end-requires g c =
     let at = (goal.at.straight-end-requires g c).After-has_history in
-    let low = c.consumers_move_on.ensures.within (with_claim g at) c.args.lane c.args.cell (claim g at)
-    c.requires.held.is c.has_history.ensures (stands g at) in
+    let low = within c.args.mailbox.now (pending g at)
+    c.args.fields.now (start g at) c.consumers_move_on.ensures.laws in
     let cells : c.args.fields.now.reader.table.size.cells ≡ c.mailbox.inside.claims.cells =
     ap (λ (n : CellsName). n.size.cells) (c.requires.belongs.cells
     ∙ sym (ap (λ (v : MailboxView). v.cells) c.mailbox.view_is)) ∙ sym c.mailbox.invariant.0.cells in
@@ -155,22 +117,31 @@ straight-end-requires g c =
       table = c.requires.belongs.claims ∙ sym (ap (λ (v : MailboxView). name_of v.claims) c.mailbox.view_is);
       cell = subst (λ n. c.args.cell < n) cells low;
       fresh = standing_fresh c.args.mailbox.now.claims.layout c.args.fields.now.seat.consumer
-          c.args.fields.now.seat.consumer (claim g at) c.requires.held.standing
-          (part_on c.args.fields.now.seat.consumer c.args.cell c.args.fields.now.seat.part) (begun g at);
+          c.args.fields.now.seat.consumer c.requires.held.claim c.requires.held.standing
+          (part_on c.args.fields.now.seat.consumer c.args.cell c.args.fields.now.seat.part)
+          (path c.args.mailbox.now (pending g at) c.args.fields.now (start g at));
     }
 
 pub take-requires : goal.take-requires
 take-requires g c =
     let at = (goal.at.take-requires g c).After-has_history in
-    record { table = c.requires.belongs.cells; may = given g at; place = c.requires.held.lane; room = has_room g at }
+    record {
+      table = c.requires.belongs.cells;
+      may = given c.args.mailbox.now (pending g at)
+          c.args.fields.now (start g at) c.consumers_move_on.ensures.laws;
+      place = c.requires.held.lane;
+      room = has_room c.args.mailbox.now (pending g at)
+          c.args.fields.now (start g at) c.consumers_move_on.ensures.laws;
+    }
 
 pub returns-in-Won : goal.returns-in-Won
 returns-in-Won g c =
     let at = goal.at.returns-in-Won g c in
     let s = start g at.After-has_history in
-    let was = was_there g at.After-has_history in
+    let was = there c.args.mailbox.now (pending g at.After-has_history)
+    c.args.fields.now (start g at.After-has_history) in
     record {
-      pursued = λ from n t other is m. taken (base g at.After-has_history) c.args.lane c.args.cell
+      pursued = λ from n t other is m. taken (with_fields c.args.fields.now) c.args.lane c.args.cell
           c.requires.held.claim c.places_tell_steps.ensures.takes c.consumers_move_on.ensures.takes s.loads
           c.take.result (last g at.After-straight-end s) c.straight-end.new.seat c.take.new.reader
           c.take.new.places.items c.take.new.notes.lists (made g at.After-straight-end s) n
@@ -189,16 +160,21 @@ returns-in-Won g c =
 pub leave-requires : goal.leave-requires
 leave-requires g c =
     let at = goal.at.leave-requires g c in
-    record { place = c.requires.held.lane; room = has_room g at.After-has_history }
+    record {
+      place = c.requires.held.lane;
+      room = has_room c.args.mailbox.now (pending g at.After-has_history)
+          c.args.fields.now (start g at.After-has_history) c.consumers_move_on.ensures.laws;
+    }
 
 pub returns-in-Lost : goal.returns-in-Lost
 returns-in-Lost g c =
     let at = goal.at.returns-in-Lost g c in
     let s = start g at.After-has_history in
-    let was = was_there g at.After-has_history in
+    let was = there c.args.mailbox.now (pending g at.After-has_history)
+    c.args.fields.now (start g at.After-has_history) in
     let all = sum g at.After-straight-end s in
     record {
-      pursued = λ from n t other is m. pursued_past (base g at.After-has_history) c.args.lane c.args.cell
+      pursued = λ from n t other is m. pursued_past (with_fields c.args.fields.now) c.args.lane c.args.cell
           c.requires.held.claim c.args.left.now (c.straight-end.result.left + 1)
           (made g at.After-straight-end s) n (last g at.After-straight-end s)
           (stage.Lost c.in-Lost.winner) (Lost c.in-Lost.winner) (poll.Lost c.in-Lost.winner) t
@@ -216,16 +192,21 @@ returns-in-Lost g c =
 pub leave-requires-in-Undecided : goal.leave-requires-in-Undecided
 leave-requires-in-Undecided g c =
     let at = goal.at.leave-requires-in-Undecided g c in
-    record { place = c.requires.held.lane; room = has_room g at.After-has_history }
+    record {
+      place = c.requires.held.lane;
+      room = has_room c.args.mailbox.now (pending g at.After-has_history)
+          c.args.fields.now (start g at.After-has_history) c.consumers_move_on.ensures.laws;
+    }
 
 pub returns-in-Undecided : goal.returns-in-Undecided
 returns-in-Undecided g c =
     let at = goal.at.returns-in-Undecided g c in
     let s = start g at.After-has_history in
-    let was = was_there g at.After-has_history in
+    let was = there c.args.mailbox.now (pending g at.After-has_history)
+    c.args.fields.now (start g at.After-has_history) in
     let all = sum g at.After-straight-end s in
     record {
-      pursued = λ from n t other is m. pursued_past (base g at.After-has_history) c.args.lane c.args.cell
+      pursued = λ from n t other is m. pursued_past (with_fields c.args.fields.now) c.args.lane c.args.cell
           c.requires.held.claim c.args.left.now (c.straight-end.result.left + 1)
           (made g at.After-straight-end s) n (last g at.After-straight-end s)
           stage.Undecided Undecided poll.Undecided t (g.R.Rng.stream c.straight-end.new.rng) from
@@ -252,17 +233,17 @@ run_rest-answer-requires-clause-held g c =
     let rng = g.R.Rng.stream c.args.rng.now in
     let end = last g at.After-straight-end s in
     let going : claim_stage end ≡ stage.Going = stage_is g at.After-straight-end s ∙ c.in-Going.is in
-    let so = ran_on g at.After-straight-end s (with_claim g at.After-has_history) 0 rng first c.requires.held.standing
-    (no_steps c.args.lane rng (with_claim g at.After-has_history)) in
+    let so = ran_on g at.After-straight-end s (held g at.After-straight-end s) 0 rng first c.requires.held.standing
+    (no_steps c.args.lane rng (held g at.After-straight-end s)) in
     record {
       lane = c.requires.held.lane;
       claim = end;
       standing = subst (λ x. IsStanding m.claims.layout x c.straight-end.result.object c.straight-end.result.value end)
           (sym (ap (λ (z : SeatView). z.consumer) so.same))
           ((straight_on g at.After-straight-end s).6.3 c.in-Going.is);
-      is = still_consumer (base g at.After-has_history) c.args.lane c.args.cell first
+      is = still_consumer (with_fields c.args.fields.now) c.args.lane c.args.cell first
           (made g at.After-straight-end s + 0) end rng (g.R.Rng.stream c.straight-end.new.rng)
-          (with_claim g at.After-has_history) c.straight-end.new.seat going so;
+          (held g at.After-straight-end s) c.straight-end.new.seat going so;
     }
 
 pub run_rest-answer-requires-clause-belongs : goal.run_rest-answer-requires-clause-belongs
@@ -270,8 +251,8 @@ run_rest-answer-requires-clause-belongs g c =
     let at = goal.at.run_rest-answer-requires-clause-belongs g c in
     let s = start g at.After-has_history in
     let rng = g.R.Rng.stream c.args.rng.now in
-    let so = ran_on g at.After-straight-end s (with_claim g at.After-has_history) 0 rng c.requires.held.claim
-    c.requires.held.standing (no_steps c.args.lane rng (with_claim g at.After-has_history)) in
+    let so = ran_on g at.After-straight-end s (held g at.After-straight-end s) 0 rng c.requires.held.claim
+    c.requires.held.standing (no_steps c.args.lane rng (held g at.After-straight-end s)) in
     record {
       cells = c.requires.belongs.cells;
       claims = ap (λ (z : SeatView). z.table) so.same ∙ c.requires.belongs.claims;
@@ -295,7 +276,8 @@ returns-in-Going-clause-pursued g c from n t other is m =
     (subst (λ x. IsStanding c.args.mailbox.now.claims.layout x c.straight-end.result.object
     c.straight-end.result.value end) (sym (ap (λ (z : SeatView). z.consumer) so.same))
     ((straight_on g at.After-straight-end s).6.3 c.in-Going.is))
-    (still_steps (base g at.After-has_history) c.args.lane c.args.cell first (made g at.After-straight-end s + n) end t
+    (still_steps (with_fields c.args.fields.now) c.args.lane c.args.cell first (made g at.After-straight-end s + n)
+    end t
     (g.R.Rng.stream c.straight-end.new.rng) from c.straight-end.new.seat going so))
 
 -- ---- no budget is left: the consumer holds the claim, which has made no access
@@ -306,7 +288,7 @@ new-claim-requires g c =
     let seat = c.args.fields.now.seat in
     let within = c.claims_begin_objects.ensures.within m.claims.layout seat.consumer 0 seat.consumer
     c.requires.held.claim (part_on seat.consumer c.args.cell seat.part) c.requires.held.standing
-    (begun g at) in
+    (path c.args.mailbox.now (pending g at) c.args.fields.now (start g at)) in
     subst (λ (l : Layout). c.consumer-consumer.result < consumer_count l)
     (sym (c.layout-layout.ensures ∙ ap (λ (v : MailboxView). v.claims.layout) c.mailbox.view_is))
     (subst (λ d. d < consumer_count m.claims.layout) (sym c.consumer-consumer.ensures.exact) within.1)

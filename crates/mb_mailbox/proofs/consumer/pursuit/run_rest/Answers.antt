@@ -5,12 +5,12 @@ use Rattle.mb_claim.specs.declared.access.Stage.TheVariants as stage
 use Rattle.mb_world.specs.declared.place.Place.{Place, TheVariants.At}
 use Rattle.mb_mailbox.specs.Steps.{AreSteps}
 use Rattle.mb_mailbox.specs.Consumers.{ConsumerView, IsConsumer}
-use Rattle.mb_mailbox.specs.Imports.{Claim, IsClaimIn, IsStanding, Layout, TableSize, claim_stage, consumer_count, kinds_of, part_on}
+use Rattle.mb_mailbox.specs.Imports.{Claim, IsStanding, Layout, claim_stage, consumer_count, kinds_of, part_on}
 use Rattle.mb_mailbox.specs.Mailboxes.{MailboxView}
 use Rattle.mb_mailbox.specs.Pursuits.{holding, with_fields}
 use Rattle.mb_mailbox.proofs.Beginnings.{standing_going, standing_same}
 use Rattle.mb_mailbox.proofs.Lists.{get_some, set_here, some_same}
-use Rattle.mb_mailbox.proofs.Starts.{PendingClaim, Start, here, table}
+use Rattle.mb_mailbox.proofs.Starts.{PendingClaim, Start, path}
 use Rattle.mb_mailbox.proofs.consumer.pursuit.run_rest.{Given.Over, Goals.After-has_history, Goals.After-standing-claim, Goals.After-stay}
 use Rattle.mb_mailbox.proofs.consumer.pursuit.run_rest.Goals as goal
 
@@ -42,13 +42,9 @@ module _ (g : Over) (c : After-has_history g) where
   within =
       let m = c.args.mailbox.now in
       let seat = c.args.fields.now.seat in
-      let z : TableSize = record { layout = m.claims.layout; cells = m.claims.cells } in
-      let path : IsClaimIn m.claims.layout pending.claim (part_on seat.consumer c.args.cell seat.part) =
-      c.consumers_move_on.ensures.turns (holding c.args.lane c.args.cell pending.claim (with_fields c.args.fields.now))
-      c.args.lane c.args.cell pending.claim c.requires.held.is (here m pending c.args.fields.now start) z
-      (table m pending c.args.fields.now start) in
       c.claims_begin_objects.ensures.within m.claims.layout seat.consumer c.args.end.now.object c.args.end.now.value
-      pending.claim (part_on seat.consumer c.args.cell seat.part) c.requires.held.standing path
+      pending.claim (part_on seat.consumer c.args.cell seat.part) c.requires.held.standing
+      (path m pending c.args.fields.now start)
 
 module _ (g : Over) (c : After-standing-claim g) where
   -- the layout that the mailbox's claims returned is the layout of the mailbox

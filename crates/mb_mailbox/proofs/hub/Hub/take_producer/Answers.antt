@@ -4,53 +4,60 @@ use Rattle.mb_cells.specs.Vocabulary.{Entry, IsLaneAfter, fetch}
 use Rattle.mb_shared_cells.specs.Vocabulary.{CellHubView, CellsName, roll_with_part}
 use Rattle.mb_mailbox.specs.Imports.{Has, PoolSize, Producer, linked_cells}
 use Rattle.mb_mailbox.specs.Mailboxes.{MailboxView}
-use Rattle.mb_mailbox.specs.Hubs.{HubView, IsHub, IsPutList, PutListView, put_list_of, with_taken_producer}
+use Rattle.mb_mailbox.specs.Hubs.{HubView, IsHub, IsPutList, put_list_of, with_taken_producer}
 use Rattle.mb_mailbox.specs.Producers.{ProducerView}
 use Rattle.mb_mailbox.proofs.HubMoves.{is_out, kept_list, took_producer}
+use Rattle.mb_mailbox.proofs.hub.Hub.take_producer.{Given.Over, Goals.After-take_lane}
 use Rattle.mb_mailbox.proofs.hub.Hub.take_producer.Goals as goal
 
--- Each proof begins with h, the hub before the call, and s, the producer, by their fields. The
--- first and the last proof then show that the call leaves `with_taken_producer s h`. `cells` says
--- so of the hub of the cells, and `lists` of the put lists. The other two fields are those of h
+module _ (g : Over) (c : After-take_lane g) where
+  -- `h` is the hub before the call, `s` the producer, and `left` the hub after the call, each by its fields
+  abbrev h : HubView
+  h = record {
+    cells = c.self.inside.cells;
+    claims = c.self.inside.claims;
+    puts = c.self.inside.puts.items;
+    records = c.self.inside.records.items;
+  }
+
+  abbrev s : ProducerView
+  s = record { seat = c.producer.inside.seat; items = c.producer.inside.items.items }
+
+  abbrev left : HubView
+  left = record {
+    cells = c.take_lane.new.hub;
+    claims = h.claims;
+    puts = slice_set h.puts c.lane-lane.result
+        (Some (record { items = c.trim.new.list.items; ended = c.has_ended-ended.result }));
+    records = h.records;
+  }
+
+  table : h.cells.table ≡ c.mailbox.inside.cells
+  table =
+      ap (λ (v : HubView). v.cells.table) c.self.view_is ∙ c.requires.hub.cells
+      ∙ sym (ap (λ (m : MailboxView). m.cells) c.mailbox.view_is)
+
+  cells : c.take_lane.new.hub ≡ (with_taken_producer s h).cells
+  cells =
+      c.take_lane.ensures.hub ∙ ap (λ (t : CellsName). record {
+        table = t;
+        roll = roll_with_part (Producer s.seat.lane) s.seat.part h.cells.roll;
+      }) (sym table)
+
+  -- the call leaves `with_taken_producer s h`. Claims and records are those of h
+  is : left ≡ with_taken_producer s h
+  is = λ j. record {
+    cells = cells j;
+    claims = h.claims;
+    puts = slice_set h.puts (c.lane-lane.ensures j)
+        (Some (record { items = c.trim.ensures j; ended = c.has_ended-ended.ensures j }));
+    records = h.records;
+  }
+
 pub invariant_of-self : goal.invariant_of-self
 invariant_of-self g c =
-    let h : HubView = record {
-      cells = c.self.inside.cells;
-      claims = c.self.inside.claims;
-      puts = c.self.inside.puts.items;
-      records = c.self.inside.records.items;
-    } in
-    let s : ProducerView = record { seat = c.producer.inside.seat; items = c.producer.inside.items.items } in
-    let table : h.cells.table ≡ c.mailbox.inside.cells =
-    ap (λ (v : HubView). v.cells.table) c.self.view_is ∙ c.requires.hub.cells
-    ∙ sym (ap (λ (m : MailboxView). m.cells) c.mailbox.view_is) in
-    let lane : c.lane-lane.result ≡ s.seat.lane = c.lane-lane.ensures in
-    let cells : c.take_lane.new.hub ≡ (with_taken_producer s h).cells =
-    c.take_lane.ensures.hub ∙ ap (λ (t : CellsName). record {
-      table = t;
-      roll = roll_with_part (Producer s.seat.lane) s.seat.part h.cells.roll;
-    }) (sym table) in
-    let kept : PutListView = record {
-      items = c.trim.new.list.items;
-      ended = c.has_ended-ended.result;
-    } in
-    let its : kept ≡ put_list_of s = λ j. record {
-      items = c.trim.ensures j;
-      ended = c.has_ended-ended.ensures j;
-    } in
-    let lists : slice_set h.puts c.lane-lane.result (Some kept) ≡ slice_set h.puts s.seat.lane (Some (put_list_of s)) =
-    λ j. slice_set h.puts (lane j) (Some (its j)) in
-    let is : with_taken_producer s h ≡ record {
-      cells = c.take_lane.new.hub;
-      claims = c.self.inside.claims;
-      puts = slice_set h.puts c.lane-lane.result (Some kept);
-      records = c.self.inside.records.items;
-    } = λ j. record {
-      cells = sym cells j;
-      claims = c.self.inside.claims;
-      puts = sym lists j;
-      records = c.self.inside.records.items;
-    } in
+    let at = (goal.at.invariant_of-self g c).After-take_lane in
+    let s = s g at in
     let pool = c.has_history.ensures.history.0 in
     let lawful = c.has_history.ensures.history.1 in
     let part_is = c.has_history.ensures.history.2 in
@@ -64,69 +71,28 @@ invariant_of-self g c =
     c.producer.invariant.0.idle
     (c.parts_have_accesses.ensures.only pool (Producer s.seat.lane) (fetch s.seat.lane e)
     (subst (λ d. Has d (fetch s.seat.lane e)) (sym part_is) has)).0 low)) in
-    let size : s.seat.table.size ≡ h.cells.table.size =
+    let size : s.seat.table.size ≡ (h g at).cells.table.size =
     ap (λ (v : ProducerView). v.seat.table.size) c.producer.view_is
     ∙ ap (λ (t : CellsName). t.size) c.requires.producer.table
-    ∙ sym (ap (λ (m : MailboxView). m.cells.size) c.mailbox.view_is) ∙ sym (ap (λ (t : CellsName). t.size) table) in
+    ∙ sym (ap (λ (m : MailboxView). m.cells.size) c.mailbox.view_is)
+    ∙ sym (ap (λ (t : CellsName). t.size) (table g at)) in
     let own = kept_list s c.producer.invariant.0 linked in
-    let took = took_producer h s c.self.invariant.0
+    let took = took_producer (h g at) s c.self.invariant.0
     (subst (λ (z : PoolSize). IsPutList z.cells s.seat.lane s.seat.part (put_list_of s)) size own)
     c.take_lane.ensures.was_out in
     let lanes : c.take_lane.new.hub.table.size.lanes
-    ≡ h.cells.table.size.lanes = ap (λ (v : CellHubView). v.table.size.lanes) cells in
+    ≡ (h g at).cells.table.size.lanes = ap (λ (v : CellHubView). v.table.size.lanes) (cells g at) in
     let wide = c.self.invariant.1 in
-    (subst IsHub is took, omega arith, c.self.invariant.2)
+    (subst IsHub (sym (is g at)) took, omega arith, c.self.invariant.2)
 
 pub returns-clause-was_out : goal.returns-clause-was_out
 returns-clause-was_out g c =
-    let h : HubView = record {
-      cells = c.self.inside.cells;
-      claims = c.self.inside.claims;
-      puts = c.self.inside.puts.items;
-      records = c.self.inside.records.items;
-    } in
-    let s : ProducerView = record { seat = c.producer.inside.seat; items = c.producer.inside.items.items } in
+    let at = (goal.at.returns-clause-was_out g c).After-take_lane in
     subst (λ (z : HubView × ProducerView). slice_get z.0.puts z.1.seat.lane ≡ Some None)
     (λ j. (c.self.view_is j, c.producer.view_is j))
-    (is_out h s.seat.lane c.self.invariant.0 c.take_lane.ensures.was_out)
+    (is_out (h g at) (s g at).seat.lane c.self.invariant.0 c.take_lane.ensures.was_out)
 
 pub returns-clause-hub : goal.returns-clause-hub
 returns-clause-hub g c =
-    let h : HubView = record {
-      cells = c.self.inside.cells;
-      claims = c.self.inside.claims;
-      puts = c.self.inside.puts.items;
-      records = c.self.inside.records.items;
-    } in
-    let s : ProducerView = record { seat = c.producer.inside.seat; items = c.producer.inside.items.items } in
-    let table : h.cells.table ≡ c.mailbox.inside.cells =
-    ap (λ (v : HubView). v.cells.table) c.self.view_is ∙ c.requires.hub.cells
-    ∙ sym (ap (λ (m : MailboxView). m.cells) c.mailbox.view_is) in
-    let lane : c.lane-lane.result ≡ s.seat.lane = c.lane-lane.ensures in
-    let cells : c.take_lane.new.hub ≡ (with_taken_producer s h).cells =
-    c.take_lane.ensures.hub ∙ ap (λ (t : CellsName). record {
-      table = t;
-      roll = roll_with_part (Producer s.seat.lane) s.seat.part h.cells.roll;
-    }) (sym table) in
-    let kept : PutListView = record {
-      items = c.trim.new.list.items;
-      ended = c.has_ended-ended.result;
-    } in
-    let its : kept ≡ put_list_of s = λ j. record {
-      items = c.trim.ensures j;
-      ended = c.has_ended-ended.ensures j;
-    } in
-    let lists : slice_set h.puts c.lane-lane.result (Some kept) ≡ slice_set h.puts s.seat.lane (Some (put_list_of s)) =
-    λ j. slice_set h.puts (lane j) (Some (its j)) in
-    let is : with_taken_producer s h ≡ record {
-      cells = c.take_lane.new.hub;
-      claims = c.self.inside.claims;
-      puts = slice_set h.puts c.lane-lane.result (Some kept);
-      records = c.self.inside.records.items;
-    } = λ j. record {
-      cells = sym cells j;
-      claims = c.self.inside.claims;
-      puts = sym lists j;
-      records = c.self.inside.records.items;
-    } in
-    sym is ∙ (λ j. with_taken_producer (c.producer.view_is j) (c.self.view_is j))
+    is g (goal.at.returns-clause-hub g c).After-take_lane
+    ∙ (λ j. with_taken_producer (c.producer.view_is j) (c.self.view_is j))
