@@ -137,14 +137,14 @@ pub extern "C" fn hz_producer_new(
         return BAD_HANDLE;
     };
     match opened {
-        Thing::OfHub(bound) => give_producer(alloc, bound, producer, lane),
+        Thing::OfHub(bound) => issue_producer(alloc, bound, producer, lane),
         _ => BAD_HANDLE,
     }
 }
 
 /// What [`hz_producer_new`] does, for an opened hub. The box is made first, so if memory runs out, the hub has issued
 /// no number.
-fn give_producer(
+fn issue_producer(
     alloc: Global,
     hub: &mut BoundHub<Global>,
     producer: &mut Handle,
@@ -221,14 +221,14 @@ pub extern "C" fn hz_consumer_new(
         return BAD_HANDLE;
     };
     match opened {
-        Thing::OfHub(bound) => give_consumer(alloc, bound, seed, consumer, number),
+        Thing::OfHub(bound) => issue_consumer(alloc, bound, seed, consumer, number),
         _ => BAD_HANDLE,
     }
 }
 
 /// What [`hz_consumer_new`] does, for an opened hub. The box is made first, so if memory runs out, the hub has issued
 /// no number.
-fn give_consumer(
+fn issue_consumer(
     alloc: Global,
     hub: &mut BoundHub<Global>,
     seed: &[u8; 32],

@@ -1,4 +1,4 @@
--- The counter is at most the number of cells and of producers refused together. Each number below it was handed out.
+-- The counter is at most the number of cells and of producers refused together. Each number below it was found.
 use Rattle.std.proofs.Common.{Bool, List, [], ap, arith, cond, eq-eqb, false, inl, inr, le-leb, refl, subst, suc, sym, true, zero, ℕ, ◌++◌, ◌+◌, ◌<◌, ◌||◌, ◌∙◌, ◌∷◌, ◌≡◌, ◌≤◌}
 use Rattle.std.specs.Prelude.{nat_le}
 use Rattle.std.proofs.lemmas.Bool.{cases_Bool, cases_eq, cases_lt, cond_both, lt-leb}
@@ -158,7 +158,7 @@ counted size (a ∷ h) l =
 pub counter_bound : (size : PoolSize) (h : History) → IsPoolLawful size h → value_in Counter h ≤ size.cells + size.lanes
 counter_bound size h l = omega (arith, counted size h l, refusals-bound size.cells size.lanes h)
 
--- each number below the counter was handed out
+-- each number below the counter was found by a fetch-add
 pub handed_out : (h : History) (k : ℕ) → IsCounted h → k < value_in Counter h → WasHandedOut k h
 handed_out [] k c lt = absurd (omega arith)
 handed_out (a ∷ h) k c lt =
@@ -174,7 +174,7 @@ handed_out (a ∷ h) k c lt =
           ]
     ]
 
--- when a fetch-add finds no cell, all cells were handed out
+-- when a fetch-add finds no cell, none was left
 pub all_handed_out : (size : PoolSize) (h : History) (p k : ℕ) (e : Entry) → IsPoolLawful size h
     → Has h (fetch p e) → size.cells ≤ e.cell → k < size.cells → WasHandedOut k h
 all_handed_out size h p k e l has high lt =

@@ -88,7 +88,7 @@ once_each size h p l =
     let f = falls size p h place.entries place.phase l place.at in
     subst IsOnceEach (sym (cells_at size p h place.entries place.phase l.sized place.at)) (once place.entries f.0)
 
--- an act on the counter leaves the offered item of each cell that was handed out before it
+-- an act on the counter leaves the offered item of each cell that was found before it
 item_after-older : (k : ℕ) (act : PoolAct) (h : History) (x : ℕ) → k < value_in Counter h
     → ReadsLast Counter act h → item_after k act x ≡ x
 item_after-older k (FetchAdd y n) h x low told =
@@ -97,7 +97,7 @@ item_after-older k (FetchAdd y n) h x low told =
     rw other refl
 item_after-older k _ h x low told = refl
 
--- an access leaves the offered item of each cell that was handed out before it
+-- an access leaves the offered item of each cell that was found before it
 item_of-older : (k : ℕ) (b : PoolAccess) (h d : History) → k < value_in Counter h → ReadsLast b.word b.act h
     → item_of k (b ∷ d) ≡ item_of k d
 item_of-older k b h d low told =

@@ -179,7 +179,7 @@ few_in_all size h l =
     (λ k has. let x = in_lane size.lanes h k has in (cell_within size h x.0 k l x.1.1).1) in
     omega (arith, most, length_cells size.lanes h)
 
--- each cell that was handed out was given by the fetch-add of some producer
+-- each cell below the counter was found by the fetch-add of some producer
 got_by : (size : PoolSize) (h : History) (k : ℕ) → IsPoolLawful size h → WasHandedOut k h
     → (p : ℕ) × ((e : Entry) × (Has h (fetch p e) × (e.cell ≡ k)))
 got_by size h k l (a, (has, (word, (x, act)))) =

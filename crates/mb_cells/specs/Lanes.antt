@@ -1,4 +1,4 @@
--- What a history puts into the lanes, and which cells it hands out.
+-- What a history puts into the lanes, and which cells its fetch-adds find.
 use Rattle.std.specs.Prelude.{Bool, List, None, Option, Some, [], false, if◌then◌else◌, length, map, nat_eq, reverse, suc, zero, ℕ, ◌+◌, ◌-◌, ◌<◌, ◌||◌, ◌∷◌, ◌≡◌}
 use Rattle.mb_cells.specs.declared.answer.Look.TheVariants as look
 use Rattle.mb_cells.specs.Types.{Counter, END, FetchAdd, Head, Link, Look, PoolAccess, PoolAct, Producer, Store, Word}

@@ -9,7 +9,7 @@ pub type NoMemory = AllocError;
 pub enum Offer {
     /// The item has this cell. Two pushes then put it.
     Cell(u32),
-    /// No cell is left: all were handed out.
+    /// No cell is left: each has its producer.
     Full,
     /// The item offered before is not linked yet.
     Busy,

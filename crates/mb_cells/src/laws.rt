@@ -60,7 +60,7 @@ pub fn calls_put_items()
     ensures answers { (size : PoolSize) (c : Call) (older : List Call) (s : PoolState)
         → HasMade size (c ∷ older) s → IsAnswerBy size.cells c older }
 
-    // A cell's number is the number of earlier fetch-adds. Full comes only if all cells were handed out. The counter
+    // A cell's number is the number of earlier fetch-adds. Full comes only if no cell is left. The counter
     // holds the number of fetch-adds.
     ensures cell { (size : PoolSize) (p x k : ℕ) (older : List Call) (s : PoolState)
         → HasMade size (Offered p x (offer.Cell k) ∷ older) s
@@ -203,7 +203,7 @@ pub fn numbers_are_handed_out_once()
     ensures once { (size : PoolSize) (h : History) (p q : ℕ) (e f : Entry) → IsPoolLawful size h
         → Has h (fetch p e) → Has h (fetch q f) → e.cell ≡ f.cell → fetch p e ≡ fetch q f }
 
-    // A fetch-add finds no cell only if all cells were handed out.
+    // A fetch-add finds no cell only if none is left.
     ensures refused { (size : PoolSize) (h : History) (p k : ℕ) (e : Entry) → IsPoolLawful size h
         → Has h (fetch p e) → size.cells ≤ e.cell → k < size.cells → WasHandedOut k h }
 

@@ -4,7 +4,7 @@
 //!
 //! Each producer has a **lane**, a list of cells that only grows. A lane has a *head* word, a cell has an *item* word
 //! and a *link* word, and all lanes share one *counter*. All are 0 at first. To put an item, a producer makes three
-//! accesses. A fetch-add of the counter gives it a cell of its own, or a number past the cells if all were handed out.
+//! accesses. A fetch-add of the counter gives it a cell of its own, or a number past the cells if none is left.
 //! Then it stores the item in that cell. At last it stores the cell's number, plus one, in the link of the lane's last
 //! cell, or in the head. At its end it may store an *end mark* where the next link would go. No access follows it.
 //!

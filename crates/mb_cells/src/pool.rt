@@ -30,7 +30,7 @@ impl<A: Allocator + Drop> Model for Pool<A> {
 impl<A: Allocator + Clone + Drop> Pool<A> {
     ghost use Rattle.mb_cells.specs.{IsAfter, cell_count, lane_count};
 
-    /// A pool of empty lanes. None of its cells was handed out. The call takes all memory that the pool will ever
+    /// A pool of empty lanes. No producer has a cell of it yet. The call takes all memory that the pool will ever
     /// need. The error is [`NoMemory`] if the allocator refuses a part of that.
     pub fn new(alloc: A, lanes: u32, cells: u32) -> Result<Pool<A>, NoMemory>
         ensures lanes { IfOk result (λ s. lane_count s ≡ lanes) }

@@ -18,7 +18,7 @@
 //! A **conciliator** makes processes agree, with luck, and never decides. It has one word. A process loads it again and
 //! again. As soon as it finds a value there, that is its output. While it finds the word empty, it stores its input
 //! with a chance that doubles each time: it becomes impatient. So most often the first that stores is the only one, and
-//! then every output is its input. Chance comes as *random words* that the caller hands in. All promises hold for all
+//! then every output is its input. Chance comes as *random words* that the caller passes. All promises hold for all
 //! random words.
 //!
 //! A **last object** has one word, which each process exchanges once: if it finds the word empty, it stores its input

@@ -9,7 +9,7 @@ use Rattle.mb_shared_cells.specs.declared.views.Roll.{Roll}
 use Rattle.mb_world.specs.Reporting.{values_put}
 use Rattle.mb_mailbox.specs.Imports.{History, PoolSize, Stream}
 use Rattle.mb_mailbox.specs.ConsumerWords.{ConsumerView, notes_on}
-use Rattle.mb_mailbox.specs.Vocabulary.{AreGivenEarly, Done, IsCalled, IsEnd, Job, Lanes, WerePolled, AreGiven, ArePutJobs, HubView, IsHub, IsHubOf, HasReadToEnd, IsOnLanes, ends_met}
+use Rattle.mb_mailbox.specs.Vocabulary.{AreIssuedEarly, Done, IsCalled, IsEnd, Job, Lanes, WerePolled, AreGiven, ArePutJobs, HubView, IsHub, IsHubOf, HasReadToEnd, IsOnLanes, ends_met}
 use Rattle.mb_mailbox.specs.Vocabulary.{full_of, is_aborted, is_stopped, MailboxView, with_taken, AreCutByCells, AreStoppedPuts, ConsumerEnd, HaveMetEnds}
 use Rattle.mb_mailbox.specs.Vocabulary.{IsRunOf, IsWorked, ProducerEnd, WereTakenIn, WereTakenInEarly, lists_in, Who, WorkFault, Worked, PollDone, PollJob, PutDone, PutJob}
 use Rattle.mb_mailbox.specs.declared.crew.jobs.Job.TheVariants as job
@@ -268,7 +268,7 @@ module _ {R Z : Type 0} (m : MailboxView) (may_stop may_pass : Who → ℕ → T
 -- there are fewer jobs than lists and sources
 pub early : {R Z : Type 0} (m : MailboxView) (may_stop may_pass : Who → ℕ → Type 0) (stream : R → Stream)
     (items : List (Vec ℕ Z)) (lanes : Lanes) (jobs : List (Job R Z)) (ends : List (Done Z)) (h mid now : HubView)
-    (hub : IsHub h) (sources : ℕ) (g : AreGivenEarly m items sources jobs h mid)
+    (hub : IsHub h) (sources : ℕ) (g : AreIssuedEarly m items sources jobs h mid)
     → length jobs < length items + sources
     → AllZip (IsEnd may_stop may_pass stream lanes) jobs ends → now ≡ with_taken ends mid
     → WereTakenInEarly (lists_in items) sources h now

@@ -55,8 +55,8 @@ new_hub cells claims puts records roll seats no_puts no_records =
     }
 
 -- `IsHub` still holds after the hub has issued one more producer
-pub gave_producer : (h : HubView) → IsHub h → length h.puts < h.cells.table.size.lanes → IsHub (with_producer h)
-gave_producer h i low = record {
+pub issued_producer : (h : HubView) → IsHub h → length h.puts < h.cells.table.size.lanes → IsHub (with_producer h)
+issued_producer h i low = record {
   lanes = longer h.puts h.cells.roll.lanes None None i.lanes;
   readers = i.readers;
   seats = i.seats;
@@ -121,9 +121,9 @@ took_producer h s i own out =
 
 -- ---- consumers
 -- `IsHub` still holds after the hub has issued one more consumer
-pub gave_consumer : (h : HubView) → IsHub h
+pub issued_consumer : (h : HubView) → IsHub h
     → length h.records < (claims_at h.claims.table).table.values → IsHub (with_consumer h)
-gave_consumer h i low = record {
+issued_consumer h i low = record {
   lanes = i.lanes;
   readers = longer h.records h.cells.roll.readers None None i.readers;
   seats = longer h.records h.claims.roll None None i.seats;

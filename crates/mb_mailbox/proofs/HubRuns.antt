@@ -67,18 +67,18 @@ outs_alike (x ∷ xs) (w ∷ ws) e = ap (λ l. None ∷ l) (outs_alike xs ws (om
 module _ {X Y : Type 0} (f : HubView → List (Option Y)) where
   -- if each producer issued adds one `None` to a list of the hub, several add one `None` each. The next lemma says
   -- the same of consumers
-  pub given_by_producers : ((h : HubView) → f (with_producer h) ≡ f h ++ None ∷ [])
+  pub issued_by_producers : ((h : HubView) → f (with_producer h) ≡ f h ++ None ∷ [])
       → (xs : List X) (h : HubView) → f (with_producers xs h) ≡ f h ++ outs xs
-  given_by_producers more [] h = sym (append-nil (f h))
-  given_by_producers more (x ∷ xs) h =
-      given_by_producers more xs (with_producer h) ∙ ap (λ l. l ++ outs xs) (more h)
+  issued_by_producers more [] h = sym (append-nil (f h))
+  issued_by_producers more (x ∷ xs) h =
+      issued_by_producers more xs (with_producer h) ∙ ap (λ l. l ++ outs xs) (more h)
       ∙ append_assoc (f h) (None ∷ []) (outs xs)
 
-  pub given_by_consumers : ((h : HubView) → f (with_consumer h) ≡ f h ++ None ∷ [])
+  pub issued_by_consumers : ((h : HubView) → f (with_consumer h) ≡ f h ++ None ∷ [])
       → (xs : List X) (h : HubView) → f (with_consumers xs h) ≡ f h ++ outs xs
-  given_by_consumers more [] h = sym (append-nil (f h))
-  given_by_consumers more (x ∷ xs) h =
-      given_by_consumers more xs (with_consumer h) ∙ ap (λ l. l ++ outs xs) (more h)
+  issued_by_consumers more [] h = sym (append-nil (f h))
+  issued_by_consumers more (x ∷ xs) h =
+      issued_by_consumers more xs (with_consumer h) ∙ ap (λ l. l ++ outs xs) (more h)
       ∙ append_assoc (f h) (None ∷ []) (outs xs)
 
 module _ {Y : Type 0} (f : HubView → List (Option Y)) where
@@ -141,7 +141,7 @@ module _ {J K : Type 0} (js : List J) (ks : List K) (ss : List ProducerView)
         ∙ taken_by_producers (λ v. v.puts) (λ s. s.seat.lane) (λ s. Some (put_list_of s)) (λ s v. refl) ss given
         ∙ ap (filled (λ (s : ProducerView). s.seat.lane) (λ s. Some (put_list_of s)) ss)
         (same_by_consumers (λ v. v.puts) (λ v. refl) ks (with_producers js h)
-        ∙ given_by_producers (λ v. v.puts) (λ v. refl) js h
+        ∙ issued_by_producers (λ v. v.puts) (λ v. refl) js h
         ∙ ap (λ l. h.puts ++ l) (outs_alike js ss count))
         ∙ fills (λ (s : ProducerView). s.seat.lane) (λ s. Some (put_list_of s)) ss h.puts (length h.puts) refl from
 
@@ -153,7 +153,7 @@ module _ {J K : Type 0} (js : List J) (ks : List K) (ss : List ProducerView)
         ∙ taken_by_producers (λ v. v.cells.roll.lanes) (λ s. s.seat.lane) (λ s. Some s.seat.part) (λ s v. refl) ss given
         ∙ ap (filled (λ (s : ProducerView). s.seat.lane) (λ s. Some s.seat.part) ss)
         (same_by_consumers (λ v. v.cells.roll.lanes) (λ v. refl) ks (with_producers js h)
-        ∙ given_by_producers (λ v. v.cells.roll.lanes) (λ v. refl) js h
+        ∙ issued_by_producers (λ v. v.cells.roll.lanes) (λ v. refl) js h
         ∙ ap (λ l. h.cells.roll.lanes ++ l) (outs_alike js ss count))
         ∙ fills (λ (s : ProducerView). s.seat.lane) (λ s. Some s.seat.part) ss h.cells.roll.lanes
         (length h.puts) (sym same) from
@@ -167,7 +167,7 @@ module _ {J K : Type 0} (js : List J) (ks : List K) (ss : List ProducerView)
         (λ s v. refl) cs (with_taken_producers ss given)
         ∙ ap (filled (λ (s : ConsumerView). s.seat.consumer) (λ s. Some (record_of s)) cs)
         (same_by_taken_producers (λ v. v.records) (λ s v. refl) ss given
-        ∙ given_by_consumers (λ v. v.records) (λ v. refl) ks (with_producers js h)
+        ∙ issued_by_consumers (λ v. v.records) (λ v. refl) ks (with_producers js h)
         ∙ ap (λ l. l ++ outs ks) (same_by_producers (λ v. v.records) (λ v. refl) js h)
         ∙ ap (λ l. h.records ++ l) (outs_alike ks cs count))
         ∙ fills (λ (s : ConsumerView). s.seat.consumer) (λ s. Some (record_of s)) cs h.records
@@ -182,7 +182,7 @@ module _ {J K : Type 0} (js : List J) (ks : List K) (ss : List ProducerView)
         (λ s. Some s.reader.part) (λ s v. refl) cs (with_taken_producers ss given)
         ∙ ap (filled (λ (s : ConsumerView). s.reader.reader) (λ s. Some s.reader.part) cs)
         (same_by_taken_producers (λ v. v.cells.roll.readers) (λ s v. refl) ss given
-        ∙ given_by_consumers (λ v. v.cells.roll.readers) (λ v. refl) ks (with_producers js h)
+        ∙ issued_by_consumers (λ v. v.cells.roll.readers) (λ v. refl) ks (with_producers js h)
         ∙ ap (λ l. l ++ outs ks) (same_by_producers (λ v. v.cells.roll.readers) (λ v. refl) js h)
         ∙ ap (λ l. h.cells.roll.readers ++ l) (outs_alike ks cs count))
         ∙ fills (λ (s : ConsumerView). s.reader.reader) (λ s. Some s.reader.part) cs
@@ -197,7 +197,7 @@ module _ {J K : Type 0} (js : List J) (ks : List K) (ss : List ProducerView)
       (λ s v. refl) cs (with_taken_producers ss given)
       ∙ ap (filled (λ (s : ConsumerView). s.seat.consumer) (λ s. Some s.seat.part) cs)
       (same_by_taken_producers (λ v. v.claims.roll) (λ s v. refl) ss given
-      ∙ given_by_consumers (λ v. v.claims.roll) (λ v. refl) ks (with_producers js h)
+      ∙ issued_by_consumers (λ v. v.claims.roll) (λ v. refl) ks (with_producers js h)
       ∙ ap (λ l. l ++ outs ks) (same_by_producers (λ v. v.claims.roll) (λ v. refl) js h)
       ∙ ap (λ l. h.claims.roll ++ l) (outs_alike ks cs count))
       ∙ fills (λ (s : ConsumerView). s.seat.consumer) (λ s. Some s.seat.part) cs h.claims.roll

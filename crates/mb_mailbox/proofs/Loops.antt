@@ -6,7 +6,7 @@ use Rattle.std.specs.List.{All, sum_by}
 use Rattle.std.proofs.lemmas.List.{append-nil, append_assoc, length-append, length-map, map-append}
 use Rattle.std.proofs.lemmas.List.Elements.{All-cons, All-head, All-push, All-tail}
 use Rattle.std.proofs.lemmas.List.Sums.{sum_by-append, sum_by-cons}
-use Rattle.mb_mailbox.specs.Given.{AreGiven, ArePollJobs, ArePollsGiven, ArePutJobs, ArePutsGiven}
+use Rattle.mb_mailbox.specs.Issued.{AreGiven, ArePollJobs, ArePollsIssued, ArePutJobs, ArePutsIssued}
 use Rattle.mb_mailbox.specs.HubRuns.{with_consumers}
 use Rattle.mb_mailbox.specs.Hubs.{HubView, IsNewConsumer, new_producer, with_consumer, with_producer}
 use Rattle.mb_mailbox.specs.Mailboxes.{MailboxView}
@@ -38,12 +38,12 @@ module _ {Z : Type 0} (m : MailboxView) where
   poll_jobs_more h (i ∷ js) j a new = (a.0, poll_jobs_more (with_consumer h) js j a.1 new)
 
 module _ {R Z : Type 0} (m : MailboxView) (h was now : HubView) where
-  -- `ArePutsGiven` still holds after the hub has issued one more producer, for one more list
-  pub puts_given_more : (vs : List (Vec ℕ Z)) (js : List (Job R Z)) (v : Vec ℕ Z) (j : PutJob Z)
-      → ArePutsGiven m vs js h was → length was.puts ≡ length h.puts + length js
+  -- `ArePutsIssued` still holds after the hub has issued one more producer, for one more list
+  pub puts_issued_more : (vs : List (Vec ℕ Z)) (js : List (Job R Z)) (v : Vec ℕ Z) (j : PutJob Z)
+      → ArePutsIssued m vs js h was → length was.puts ≡ length h.puts + length js
       → j.producer ≡ new_producer m (length was.puts) → j.list ≡ v → now ≡ with_producer was
-      → ArePutsGiven m (vs ++ v ∷ []) (js ++ job.Put j ∷ []) h now
-  puts_given_more vs js v j g count is list e =
+      → ArePutsIssued m (vs ++ v ∷ []) (js ++ job.Put j ∷ []) h now
+  puts_issued_more vs js v j g count is list e =
       let each = ap length g.whole ∙ length-map g.puts job.Put in
       record {
         puts = g.puts ++ j ∷ [];
@@ -53,11 +53,11 @@ module _ {R Z : Type 0} (m : MailboxView) (h was now : HubView) where
         hub = e ∙ ap with_producer g.hub ∙ sym (producers_snoc g.puts j h);
       }
 
-  -- `ArePollsGiven` still holds after the hub has issued one more consumer, for one more source
-  pub polls_given_more : (rs : List R) (first js : List (Job R Z)) (r : R) (j : PollJob R Z)
-      → ArePollsGiven m rs true first js h was → IsNewConsumer m was j.consumer → j.rng ≡ r → now ≡ with_consumer was
-      → ArePollsGiven m (rs ++ r ∷ []) true first (js ++ job.Poll j ∷ []) h now
-  polls_given_more rs first js r j g new is e =
+  -- `ArePollsIssued` still holds after the hub has issued one more consumer, for one more source
+  pub polls_issued_more : (rs : List R) (first js : List (Job R Z)) (r : R) (j : PollJob R Z)
+      → ArePollsIssued m rs true first js h was → IsNewConsumer m was j.consumer → j.rng ≡ r → now ≡ with_consumer was
+      → ArePollsIssued m (rs ++ r ∷ []) true first (js ++ job.Poll j ∷ []) h now
+  polls_issued_more rs first js r j g new is e =
       let longer = length-append g.polls (j ∷ []) in
       let all = length-append rs (r ∷ []) in
       let few = g.few in
@@ -72,10 +72,10 @@ module _ {R Z : Type 0} (m : MailboxView) (h was now : HubView) where
         hub = e ∙ ap with_consumer g.hub ∙ sym (consumers_snoc g.polls j h);
       }
 
-  -- if `ArePollsGiven` holds for a beginning of these sources, it holds for all of them, but with `false` for `all`
-  pub polls_given_early : (rs rest all : List R) (first js : List (Job R Z)) → rs ++ rest ≡ all
-      → ArePollsGiven m rs true first js h now → ArePollsGiven m all false first js h now
-  polls_given_early rs rest all first js whole g =
+  -- if `ArePollsIssued` holds for a beginning of these sources, it holds for all of them, but with `false` for `all`
+  pub polls_issued_early : (rs rest all : List R) (first js : List (Job R Z)) → rs ++ rest ≡ all
+      → ArePollsIssued m rs true first js h now → ArePollsIssued m all false first js h now
+  polls_issued_early rs rest all first js whole g =
       let longer = sym (length-append rs rest) ∙ ap length whole in
       let few = g.few in
       record {
@@ -87,9 +87,9 @@ module _ {R Z : Type 0} (m : MailboxView) (h was now : HubView) where
         hub = g.hub;
       }
 
-  -- if the hub has issued no consumer yet, `ArePollsGiven` holds for no sources
-  abbrev pub no_polls_given : (first : List (Job R Z)) → now ≡ h → ArePollsGiven m [] true first first h now
-  no_polls_given first e = record {
+  -- if the hub has issued no consumer yet, `ArePollsIssued` holds for no sources
+  abbrev pub no_polls_issued : (first : List (Job R Z)) → now ≡ h → ArePollsIssued m [] true first first h now
+  no_polls_issued first e = record {
     polls = [];
     whole = sym (append-nil first);
     are = tt;
@@ -99,9 +99,9 @@ module _ {R Z : Type 0} (m : MailboxView) (h was now : HubView) where
   }
 
   -- if the hub has issued producers, and then consumers, `AreGiven` holds
-  abbrev pub both_given : (vs : List (Vec ℕ Z)) (rs : List R) (all : Bool) (first js : List (Job R Z))
-      → ArePutsGiven m vs first h was → ArePollsGiven m rs all first js was now → AreGiven m vs js h now
-  both_given vs rs all first js p q = record {
+  abbrev pub both_issued : (vs : List (Vec ℕ Z)) (rs : List R) (all : Bool) (first js : List (Job R Z))
+      → ArePutsIssued m vs first h was → ArePollsIssued m rs all first js was now → AreGiven m vs js h now
+  both_issued vs rs all first js p q = record {
     puts = p.puts;
     polls = q.polls;
     whole = q.whole ∙ ap (λ l. l ++ map job.Poll q.polls) p.whole;

@@ -23,7 +23,7 @@ pub mod Runs
 pub mod Worked
 pub mod Called
 pub mod HubRuns
-pub mod Given
+pub mod Issued
 pub mod Gathering
 pub mod ReportedRuns
 pub mod Filling

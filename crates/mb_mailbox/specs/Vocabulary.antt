@@ -11,4 +11,4 @@ pub use Rattle.mb_mailbox.specs.Runs.{IsDoneOf, IsEnd, IsJobOf, full_of, is_abor
 pub use Rattle.mb_mailbox.specs.Worked.{AreCutByCells, AreStoppedPolls, AreStoppedPuts, ConsumerEnd, HasMetEnd, HasMetEnds, HasNoteAtEach, HaveMetEnds, IsRunOf, IsStoppedPut, IsWorked}
 pub use Rattle.mb_mailbox.specs.Worked.{ProducerEnd, WereTakenIn, WereTakenInEarly, ended_list, items_behind, items_beyond, lists_in}
 pub use Rattle.mb_mailbox.specs.Called.{IsCalled, WasPassed, WerePassed, WerePolled}
-pub use Rattle.mb_mailbox.specs.Given.{AreGiven, AreGivenEarly, ArePollJobs, ArePutJobs}
+pub use Rattle.mb_mailbox.specs.Issued.{AreGiven, AreIssuedEarly, ArePollJobs, ArePutJobs}

@@ -113,7 +113,7 @@ pub fn work<
         ↔ AsksTooMany mailbox.now (vec_len items) (vec_len rngs) hub.old }
     ensures bad_budget { (result ≡ Err BadBudget)
         ↔ ((budget ≡ 0) × (AsksTooMany mailbox.now (vec_len items) (vec_len rngs) hub.old → ⊥)) }
-    ensures nothing_given { (result ≡ Err AllGiven) ⊎ (result ≡ Err BadBudget)
+    ensures nothing_issued { (result ≡ Err AllGiven) ⊎ (result ≡ Err BadBudget)
         → hub.new ≡ hub.old }
 
     // Whatever the result is, all that this call issued are returned, and each producer among them ended its lane.

@@ -81,7 +81,7 @@ pub fn full_budgets_suffice()
 }
 
 /// A lane that was never issued is open and empty. A consumer that was never issued has noted and begun nothing.
-pub fn what_was_not_given_is_empty()
+pub fn what_was_not_issued_is_empty()
     ensures items { (h : HubView) (p : ℕ) → length h.puts ≤ p → items_in p h ≡ [] }
     ensures ended { (h : HubView) (p : ℕ) → length h.puts ≤ p → ended_in p h ≡ false }
     ensures notes { (h : HubView) (c p : ℕ) → length h.records ≤ c → notes_in c p h ≡ [] }
@@ -89,7 +89,7 @@ pub fn what_was_not_given_is_empty()
 {}
 
 /// The report has what those issued bring back: a producer's items and end mark, a consumer's notes and begun claims.
-pub fn what_was_taken_in_is_told()
+pub fn what_was_returned_is_told()
     ensures items { (h : HubView) (s : ProducerView)
         → slice_get h.puts s.seat.lane ≡ Some None
         → items_in s.seat.lane (with_taken_producer s h) ≡ s.items }

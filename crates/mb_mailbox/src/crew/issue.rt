@@ -3,7 +3,7 @@ ghost use Rattle.std.specs.Prelude.{◌≡◌, ◌+◌, ◌<◌, ◌≤◌, [], 
 ghost use Rattle.std.specs.List.{All};
 ghost use Rattle.mb_mailbox.specs.Imports.{consumer_count};
 ghost use Rattle.mb_mailbox.specs.Hubs.{IsHubOf};
-ghost use Rattle.mb_mailbox.specs.Given.{AreAllGiven, AreGivenEarly, ArePollsGiven, ArePutsGiven, ArePutsGivenEarly};
+ghost use Rattle.mb_mailbox.specs.Issued.{AreAllIssued, AreIssuedEarly, ArePollsIssued, ArePutsIssued, ArePutsIssuedEarly};
 ghost use Rattle.mb_mailbox.specs.Runs.{HasRoom, IsJobOf};
 
 use super::jobs::{Job, PollJob, PutJob};
@@ -14,7 +14,7 @@ use std::alloc::Allocator;
 
 /// Issues a producer for each list, in order, and adds its job to `jobs`, which has room for all. If the allocator
 /// refuses what one of them needs, this stops there and returns `false`.
-pub(super) fn give_producers<R: Drop, A: Allocator + Clone + Drop, B: Allocator + Drop>(
+pub(super) fn issue_producers<R: Drop, A: Allocator + Clone + Drop, B: Allocator + Drop>(
     alloc: &A,
     mailbox: &Mailbox<B>,
     hub: &mut Hub<A>,
@@ -24,9 +24,9 @@ pub(super) fn give_producers<R: Drop, A: Allocator + Clone + Drop, B: Allocator 
     requires belongs { IsHubOf mailbox.now hub.old }
     requires left { length hub.old.puts + vec_len items ≤ mailbox.now.cells.size.lanes }
     requires room { HasRoom (vec_len items) jobs.old }
-    ensures early { ArePutsGivenEarly mailbox.now items.items jobs.new.items hub.old hub.new }
+    ensures early { ArePutsIssuedEarly mailbox.now items.items jobs.new.items hub.old hub.new }
     ensures all { result ≡ true
-        → ArePutsGiven mailbox.now items.items jobs.new.items hub.old hub.new }
+        → ArePutsIssued mailbox.now items.items jobs.new.items hub.old hub.new }
     ensures jobs { All (IsJobOf mailbox.now) jobs.new.items }
     ensures few { vec_len jobs.new ≤ vec_len items }
     ensures fewer { result ≡ false → vec_len jobs.new < vec_len items }
@@ -48,7 +48,7 @@ pub(super) fn give_producers<R: Drop, A: Allocator + Clone + Drop, B: Allocator 
 
 /// Issues a consumer for each source, in order, and adds its job to `jobs`, which has room for all. If the allocator
 /// refuses what one of them needs, this stops there and returns `false`.
-pub(super) fn give_consumers<R: Rng + Drop, A: Allocator + Clone + Drop, B: Allocator + Drop>(
+pub(super) fn issue_consumers<R: Rng + Drop, A: Allocator + Clone + Drop, B: Allocator + Drop>(
     alloc: &A,
     mailbox: &Mailbox<B>,
     hub: &mut Hub<A>,
@@ -60,7 +60,7 @@ pub(super) fn give_consumers<R: Rng + Drop, A: Allocator + Clone + Drop, B: Allo
         mailbox.now.claims.layout }
     requires jobs { All (IsJobOf mailbox.now) jobs.old.items }
     requires room { vec_len jobs.old + vec_len rngs ≤ vec_capacity jobs.old }
-    ensures given { ArePollsGiven mailbox.now rngs.items result jobs.old.items jobs.new.items
+    ensures given { ArePollsIssued mailbox.now rngs.items result jobs.old.items jobs.new.items
         hub.old hub.new }
     ensures jobs { All (IsJobOf mailbox.now) jobs.new.items }
     ensures few { vec_len jobs.new ≤ vec_len jobs.old + vec_len rngs }
@@ -95,17 +95,17 @@ pub(super) fn give<R: Rng + Drop, A: Allocator + Clone + Drop, B: Allocator + Dr
     requires consumers { length hub.old.records + vec_len rngs ≤ consumer_count
         mailbox.now.claims.layout }
     requires room { HasRoom (vec_len items + vec_len rngs) jobs.old }
-    ensures early { AreGivenEarly mailbox.now items.items (vec_len rngs) jobs.new.items hub.old
+    ensures early { AreIssuedEarly mailbox.now items.items (vec_len rngs) jobs.new.items hub.old
         hub.new }
     ensures all { result ≡ true
-        → AreAllGiven mailbox.now items.items rngs.items jobs.new.items hub.old hub.new }
+        → AreAllIssued mailbox.now items.items rngs.items jobs.new.items hub.old hub.new }
     ensures jobs { All (IsJobOf mailbox.now) jobs.new.items }
     ensures few { vec_len jobs.new ≤ vec_len items + vec_len rngs }
     ensures fewer { result ≡ false → vec_len jobs.new < vec_len items + vec_len rngs }
     ensures belongs { IsHubOf mailbox.now hub.new }
 {
-    if !give_producers(alloc, mailbox, hub, items, jobs) {
+    if !issue_producers(alloc, mailbox, hub, items, jobs) {
         return false;
     }
-    give_consumers(alloc, mailbox, hub, rngs, jobs)
+    issue_consumers(alloc, mailbox, hub, rngs, jobs)
 }

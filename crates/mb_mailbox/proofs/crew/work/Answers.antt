@@ -24,8 +24,8 @@ returns-clause-all_given g c = (
       )) a)),
 )
 
-pub returns-clause-nothing_given : goal.returns-clause-nothing_given
-returns-clause-nothing_given g c = λ a. absurd (⊎_elim
+pub returns-clause-nothing_issued : goal.returns-clause-nothing_issued
+returns-clause-nothing_issued g c = λ a. absurd (⊎_elim
     (λ e. c.work_with.ensures.all_given e) (λ e. c.work_with.ensures.bad_budget e) a)
 
 pub returns-clause-worked : goal.returns-clause-worked

@@ -6,7 +6,7 @@ use Rattle.mb_mailbox.specs.Consumers.{IsConsumer}
 use Rattle.mb_mailbox.specs.Mailboxes.{MailboxView}
 use Rattle.mb_mailbox.specs.Hubs.{HubView, IsHub, IsNewConsumer, with_consumer}
 use Rattle.mb_mailbox.proofs.Made.{at_views}
-use Rattle.mb_mailbox.proofs.HubMoves.{gave_consumer}
+use Rattle.mb_mailbox.proofs.HubMoves.{issued_consumer}
 use Rattle.mb_mailbox.proofs.NewConsumer.{is_new, new_reader, new_seat}
 use Rattle.mb_mailbox.proofs.hub.Hub.consumer.Goals as goal
 
@@ -94,7 +94,7 @@ invariant_of-self g c =
     c.consumers.ensures ∙ ap consumer_count c.layout.ensures
     ∙ ap (λ (t : ClaimTable). (claims_at t).table.values) (sym claims) in
     omega arith) in (
-      subst IsHub is (gave_consumer h i low),
+      subst IsHub is (issued_consumer h i low),
       subst (λ (t : CellHubView). t.table.size.lanes ≤ c.self.inside.puts.cap) (sym cells) c.self.invariant.1,
       omega arith,
     )

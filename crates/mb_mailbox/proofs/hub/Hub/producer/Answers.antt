@@ -2,7 +2,7 @@ use Rattle.std.proofs.Common.{[], ◌≡◌, ◌∙◌, ◌∷◌, ◌++◌, ◌
 use Rattle.mb_shared_cells.specs.Vocabulary.{CellHubView, CellsName, roll_with_lane}
 use Rattle.mb_mailbox.specs.Mailboxes.{MailboxView}
 use Rattle.mb_mailbox.specs.Hubs.{HubView, IsHub, with_producer}
-use Rattle.mb_mailbox.proofs.HubMoves.{gave_producer}
+use Rattle.mb_mailbox.proofs.HubMoves.{issued_producer}
 use Rattle.mb_mailbox.proofs.hub.Hub.producer.Goals as goal
 
 -- h is the hub before the call, by its fields. The call leaves `with_producer h`. `cells` says so
@@ -45,4 +45,4 @@ invariant_of-self g c =
     let its : h.cells.table.size.lanes ≡ c.mailbox.inside.cells.size.lanes =
     ap (λ (t : CellsName). t.size.lanes) table in
     omega arith) in
-    (subst IsHub is (gave_producer h c.self.invariant.0 low), omega arith, c.self.invariant.2)
+    (subst IsHub is (issued_producer h c.self.invariant.0 low), omega arith, c.self.invariant.2)

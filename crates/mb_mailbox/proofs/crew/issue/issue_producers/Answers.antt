@@ -4,9 +4,9 @@ use Rattle.std.proofs.lemmas.List.Elements.{All-push}
 use Rattle.mb_mailbox.specs.Hubs.{HubView}
 use Rattle.mb_mailbox.specs.Producers.{ProducerView}
 use Rattle.mb_mailbox.specs.Runs.{IsJobOf}
-use Rattle.mb_mailbox.proofs.Loops.{left_more, puts_given_more}
+use Rattle.mb_mailbox.proofs.Loops.{left_more, puts_issued_more}
 use Rattle.mb_mailbox.proofs.Zips.{next_seen}
-use Rattle.mb_mailbox.proofs.crew.issue.give_producers.Goals as goal
+use Rattle.mb_mailbox.proofs.crew.issue.issue_producers.Goals as goal
 
 pub loop-list-preserved : goal.loop-list-preserved
 loop-list-preserved g c =
@@ -22,7 +22,7 @@ loop-list-preserved g c =
       left = left_more _ _ _ _ _ i.left c.push_reserved.ensures.len c.in-Some.ensures.steps.1;
       room = c.push_reserved.ensures.capacity ∙ i.room;
       given = rw c.push_reserved.ensures.items
-          (puts_given_more c.args.mailbox.now c.args.hub.now c.loop-list.hub c.producer.new.self
+          (puts_issued_more c.args.mailbox.now c.args.hub.now c.loop-list.hub c.producer.new.self
           c.loop-list.yielded c.loop-list.jobs.items c.in-Some.list _ i.given
           (omega (arith, count, jobs)) is refl hub);
       all_jobs = rw c.push_reserved.ensures.items

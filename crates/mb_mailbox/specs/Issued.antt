@@ -24,22 +24,22 @@ module _ {Z : Type 0} where
 -- ---- the jobs whose producers and consumers a hub has issued
 module _ {R Z : Type 0} (m : MailboxView) where
   -- there is one producer's job for each list, in their order. The hub has issued the producers, with the next numbers
-  pub record ArePutsGiven (lists : List (Vec ℕ Z)) (jobs : List (Job R Z)) (old new : HubView) : Type 0 where
+  pub record ArePutsIssued (lists : List (Vec ℕ Z)) (jobs : List (Job R Z)) (old new : HubView) : Type 0 where
     pub puts : List (PutJob Z)
     pub whole : jobs ≡ map job.Put puts
     pub are : ArePutJobs m (length old.puts) lists puts
     pub hub : new ≡ with_producers puts old
 
-  -- `ArePutsGiven` holds for a beginning of these lists
-  pub record ArePutsGivenEarly (lists : List (Vec ℕ Z)) (jobs : List (Job R Z)) (old new : HubView) : Type 0 where
+  -- `ArePutsIssued` holds for a beginning of these lists
+  pub record ArePutsIssuedEarly (lists : List (Vec ℕ Z)) (jobs : List (Job R Z)) (old new : HubView) : Type 0 where
     pub front : List (Vec ℕ Z)
     pub rest : List (Vec ℕ Z)
     pub whole : front ++ rest ≡ lists
-    pub given : ArePutsGiven front jobs old new
+    pub given : ArePutsIssued front jobs old new
 
   -- after the jobs `first` come those of new consumers, at most as many as there are sources. If `all` is true, there
   -- is one for each source, in their order. The hub has issued these consumers
-  pub record ArePollsGiven (sources : List R) (all : Bool) (first jobs : List (Job R Z)) (old new : HubView)
+  pub record ArePollsIssued (sources : List R) (all : Bool) (first jobs : List (Job R Z)) (old new : HubView)
       : Type 0 where
     pub polls : List (PollJob R Z)
     pub whole : jobs ≡ first ++ map job.Poll polls
@@ -59,7 +59,7 @@ module _ {R Z : Type 0} (m : MailboxView) where
     pub hub : new ≡ with_consumers polls (with_producers puts old)
 
   -- `AreGiven` holds for a beginning of these lists, with at most this many consumers
-  pub record AreGivenEarly (lists : List (Vec ℕ Z)) (sources : ℕ) (jobs : List (Job R Z)) (old new : HubView)
+  pub record AreIssuedEarly (lists : List (Vec ℕ Z)) (sources : ℕ) (jobs : List (Job R Z)) (old new : HubView)
       : Type 0 where
     pub front : List (Vec ℕ Z)
     pub rest : List (Vec ℕ Z)
@@ -68,7 +68,7 @@ module _ {R Z : Type 0} (m : MailboxView) where
     pub few : length given.polls ≤ sources
 
   -- `AreGiven` holds for all these lists, and there is one consumer's job for each of these sources, in their order
-  pub record AreAllGiven (lists : List (Vec ℕ Z)) (sources : List R) (jobs : List (Job R Z)) (old new : HubView)
+  pub record AreAllIssued (lists : List (Vec ℕ Z)) (sources : List R) (jobs : List (Job R Z)) (old new : HubView)
       : Type 0 where
     pub given : AreGiven lists jobs old new
     pub all_sources : map (λ j. j.rng) given.polls ≡ sources

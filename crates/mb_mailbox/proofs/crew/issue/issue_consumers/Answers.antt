@@ -3,9 +3,9 @@ use Rattle.std.proofs.lemmas.List.{length-append}
 use Rattle.std.proofs.lemmas.List.Elements.{All-push}
 use Rattle.mb_mailbox.specs.Hubs.{HubView}
 use Rattle.mb_mailbox.specs.Runs.{IsJobOf}
-use Rattle.mb_mailbox.proofs.Loops.{left_more, polls_given_more}
+use Rattle.mb_mailbox.proofs.Loops.{left_more, polls_issued_more}
 use Rattle.mb_mailbox.proofs.Zips.{next_seen}
-use Rattle.mb_mailbox.proofs.crew.issue.give_consumers.Goals as goal
+use Rattle.mb_mailbox.proofs.crew.issue.issue_consumers.Goals as goal
 
 pub loop-rng-preserved : goal.loop-rng-preserved
 loop-rng-preserved g c =
@@ -20,7 +20,7 @@ loop-rng-preserved g c =
       left = left_more _ _ _ _ _ i.left c.push_reserved.ensures.len c.in-Some.ensures.steps.1;
       room = c.push_reserved.ensures.capacity ∙ i.room;
       given = rw c.push_reserved.ensures.items
-          (polls_given_more c.args.mailbox.now c.args.hub.now c.loop-rng.hub c.consumer.new.self
+          (polls_issued_more c.args.mailbox.now c.args.hub.now c.loop-rng.hub c.consumer.new.self
           c.loop-rng.yielded c.args.jobs.now.items c.loop-rng.jobs.items c.in-Some.rng _ i.given new refl hub);
       all_jobs = rw c.push_reserved.ensures.items
           (All-push (IsJobOf c.args.mailbox.now) c.loop-rng.jobs.items _
