@@ -2,9 +2,9 @@
 use Rattle.mb_segment.proofs.Base.{Bool, List, None, Option, Some, [], ap, arith, eq-eqb, false, get_elem?}
 use Rattle.mb_segment.proofs.Base.{if◌then◌else◌, inl, inr, length, length-append, map, nat_eq, ne_eqb, refl}
 use Rattle.mb_segment.proofs.Base.{replicate, slice_index, slice_set, some, some-injective}
-use Rattle.mb_segment.proofs.Base.{some-ne-none, subst, suc, sym, true, zero, ℕ, ⊎_elim, ◌++◌, ◌+◌, ◌<◌, ◌∙◌}
+use Rattle.mb_segment.proofs.Base.{some-ne-none, subst, suc, sym, true, zero, ℕ, ⊎_elim, ◌++◌, ◌+◌, ◌<◌, ◌≤◌, ◌∙◌}
 use Rattle.mb_segment.proofs.Base.{◌∷◌, ◌≡◌, ◌≢◌, ◌⊎◌}
-use Rattle.mb_segment.specs.Vocabulary.{Claim, Entry, History, all_entries, drawn, entries, spot, spots_by}
+use Rattle.mb_segment.specs.Vocabulary.{Below, Claim, Entry, History, all_entries, drawn, entries, spot, spots_by}
 use Rattle.mb_segment.specs.Vocabulary.{spots_to}
 
 pub size_set : {A : Type 0} (l : List A) (i : ℕ) (w : A) → length (slice_set l i w) ≡ length l
@@ -97,6 +97,16 @@ module _ {T : Type 0} where
           ≡ (if b then spot p d.value ∷ spots_by n (suc p) ds else spots_by n (suc p) ds) ++ spot q x ∷ []
       go r true = ap (λ l. spot p d.value ∷ l) r
       go r false = r
+
+  -- all positions of pass n are below m, where the list ends there
+  pub below_by : (n b m : ℕ) (es : List (Entry T)) → b + length es ≤ m → Below m (spots_by n b es)
+  below_by n b m [] le = tt
+  below_by n b m (d ∷ ds) le = go (omega arith) (below_by n (suc b) m ds (omega arith)) (nat_eq d.by n)
+    where
+      go : b < m → Below m (spots_by n (suc b) ds) → (c : Bool)
+          → Below m (if c then spot b d.value ∷ spots_by n (suc b) ds else spots_by n (suc b) ds)
+      go lt r true = (lt, r)
+      go lt r false = r
 
   pub by_other : (n p : ℕ) (es : List (Entry T)) (e : Entry T) → e.by ≢ n
       → spots_by n p (es ++ e ∷ []) ≡ spots_by n p es

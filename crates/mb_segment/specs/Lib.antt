@@ -14,5 +14,6 @@ pub mod Answers
 pub mod Waiting
 pub mod Ending
 pub mod Vocabulary
+pub mod SegmentSamples
 -- the names that clauses use, also for the crates above
 pub use Vocabulary.*

@@ -1,6 +1,6 @@
 -- How a step changes a view.
-use Rattle.std.specs.Prelude.{Bool, Some, [], false, true, ℕ, ◌+◌, ◌++◌, ◌-◌, ◌∷◌, ◌≡◌}
-use Rattle.mb_segment.specs.Types.{Duty, Nothing, Reads, View, Writes}
+use Rattle.std.specs.Prelude.{Bool, List, Some, [], false, true, ℕ, ◌+◌, ◌++◌, ◌-◌, ◌<◌, ◌∷◌, ◌≡◌}
+use Rattle.mb_segment.specs.Types.{Duty, Nothing, Reads, Spot, View, Writes}
 use Rattle.mb_segment.specs.History.{spot}
 use Rattle.mb_segment.specs.Passes.{blank, blind}
 
@@ -87,6 +87,24 @@ sees_full v = record v { sight = record v.sight { full = true } }
 
 abbrev pub sees_cut : {T : Type 0} → View T → View T
 sees_cut v = record v { sight = record v.sight { cut = true } }
+
+-- it cut the segment
+abbrev pub did_cut : {T : Type 0} → View T → View T
+did_cut v = record v { account = record v.account { cut = true }; sight = record v.sight { cut = true } }
+
+-- it saw that all positions were claimed when n were drawn
+abbrev pub sees_empty : {T : Type 0} → ℕ → View T → View T
+sees_empty n v = record v { sight = record v.sight { empty = n } }
+
+-- each position of the list is below n
+abbrev pub Below : {T : Type 0} → ℕ → List (Spot T) → Type 0
+Below n [] = Unit {0}
+Below n (s ∷ ss) = (s.at < n) × Below n ss
+
+-- when it saw that, all was claimed that it had sent or seen marked
+abbrev pub SawAllTaken : {T : Type 0} → View T → Type 0
+SawAllTaken v = Below v.sight.empty v.account.sent
+    × ((p : ℕ) → v.sight.ripe ≡ Some p → p < v.sight.empty)
 
 -- it is told that no value can come any more
 abbrev pub told : {T : Type 0} → View T → View T

@@ -38,6 +38,7 @@ mod left;
 mod list;
 mod receiving;
 mod rule;
+pub mod samples;
 mod segment;
 mod sending;
 #[cfg(test)]

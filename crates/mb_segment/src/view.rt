@@ -7,10 +7,11 @@ pub struct Spot<T> {
     pub value: T,
 }
 
-/// What a pass sent and what it received, each in the order of the positions.
+/// What a pass sent and what it received, each in the order of the positions, and whether it cut the segment.
 pub struct Account<T> {
     pub sent: LinkedList<Spot<T>>,
     pub got: LinkedList<Spot<T>>,
+    pub cut: bool,
 }
 
 /// Who holds the view.
@@ -58,6 +59,8 @@ pub struct Sight {
     pub full: bool,
     /// The segment is cut.
     pub cut: bool,
+    /// At a moment at which as many positions as this were drawn, all of them were claimed.
+    pub empty: u64,
 }
 
 pub struct View<T> {
