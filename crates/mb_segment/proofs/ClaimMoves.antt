@@ -7,7 +7,7 @@ use Rattle.mb_segment.specs.Vocabulary.{Claim, Duty, Entry, Half, HalfFits, HasH
 use Rattle.mb_segment.specs.Vocabulary.{Keeps, Member, Nothing, Reads, Sat, Taken, Undrawn, View, Waiting}
 use Rattle.mb_segment.specs.Vocabulary.{Writes, all_entries, claiming, done, drawn, entries, free}
 use Rattle.mb_segment.specs.Vocabulary.{got_by, looked, spot, spots_by, taken, took, with_duty}
-use Rattle.mb_segment.proofs.Spots.{below_length, entries_append, entry_of, size_set, snoc_at, to_other}
+use Rattle.mb_segment.proofs.Spots.{below_length, entries_append, entry_of, heard_claim, size_set, snoc_at, to_other}
 use Rattle.mb_segment.proofs.Spots.{to_own}
 use Rattle.mb_segment.proofs.Halves.{half_else, half_here, match_kept, no_hub, no_reads, no_spent, no_writes}
 use Rattle.mb_segment.proofs.Kept.{Goes, Next, Same, St, at1, exchanges, moved}
@@ -213,6 +213,8 @@ module _ {T : Type 0} where
             full = λ on. sd ∙ fit.full on;
             cut_ = fit.cut_;
             empty = let e = fit.empty in omega arith;
+            heard = heard_claim k.history g old b.value v (omega arith) (omega arith) (omega arith) (omega arith)
+                fit.heard;
             over = λ on. absurd (let y : length k.history.rest ≡ 0 = ap length (fit.over on).1 in omega arith);
           };
           laws = λ L O C L' O' C' l o c le q h. let lk = look.2 in let lc = look.3 in let la = look.1 in (

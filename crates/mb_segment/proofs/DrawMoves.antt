@@ -10,7 +10,7 @@ use Rattle.mb_segment.specs.Vocabulary.{Member, Nothing, Reads, Sat, Taken, Undr
 use Rattle.mb_segment.specs.Vocabulary.{all_entries, asking, did_cut, drawing, drawing_picked, drawn, drew}
 use Rattle.mb_segment.specs.Vocabulary.{entries, exchanging, owes_all, owes_wake, seeing_cut, sees_cut}
 use Rattle.mb_segment.specs.Vocabulary.{sees_full, sent_by, spot, spots_by, taken, with_duty}
-use Rattle.mb_segment.proofs.Spots.{all_length, below_length, by_other, by_own, same_some, size_set, snoc_at}
+use Rattle.mb_segment.proofs.Spots.{all_length, below_length, by_other, by_own, heard_draw, same_some, size_set, snoc_at}
 use Rattle.mb_segment.proofs.Halves.{free_open, free_shut, half_else, half_here, match_kept, no_hub, no_reads}
 use Rattle.mb_segment.proofs.Halves.{no_spent, no_writes, uncut}
 use Rattle.mb_segment.proofs.Kept.{Goes, Next, Same, St, at0, at_rest, exchanges, loaded, moved, now}
@@ -197,6 +197,7 @@ module _ {T : Type 0} where
             full = λ on. absurd (let y = fit.full on in omega arith);
             cut_ = fit.cut_;
             empty = fit.empty;
+            heard = heard_draw h g old x v (omega arith) (omega arith) (omega arith) fit.heard;
             over = λ on. absurd (let y = (fit.over on).0 in omega arith);
           };
           laws = λ L O C L' O' C' l o c le q h'. (
@@ -319,6 +320,7 @@ module _ {T : Type 0} where
             full = fit.full;
             cut_ = λ _. omega arith;
             empty = fit.empty;
+            heard = fit.heard;
             over = λ on. (shut_, (fit.over on).1);
           };
           laws = λ L O C L' O' C' l o c le q h'. (

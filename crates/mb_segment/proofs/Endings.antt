@@ -80,6 +80,7 @@ module _ {T : Type 0} where
       receivers = λ i c c_at. let d = taker s k i c c_at in in_roll c.to d.0 d.1;
       closer = λ j e. let d = closer s k j e in in_roll j d.0 d.1;
       left_is = refl;
+      heeds = (k.fits n v at).heard.2.2;
     }
 
     pub stands : (slots : List (Option T)) → ((j : ℕ) (y : Option T) → get_elem? s.homes j ≡ some (some y)

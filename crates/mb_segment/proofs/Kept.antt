@@ -4,7 +4,7 @@ use Rattle.mb_segment.proofs.Base.{carried_after, either, exchanged, false, get_
 use Rattle.mb_segment.proofs.Base.{set_again, set_else, set_here, slice_index, slice_set, some}
 use Rattle.mb_segment.proofs.Base.{some-injective, stepped, subst, sym, true, ℕ, ℕ_discrete, ⊎_elim, ◌*◌, ◌+◌}
 use Rattle.mb_segment.proofs.Base.{◌-◌, ◌<◌, ◌==◌, ◌∙◌, ◌∷◌, ◌≡◌, ◌≢◌, ◌≤◌}
-use Rattle.mb_segment.specs.Vocabulary.{Account, Duty, Fits, Half, HalfFits, HasHalf, History, Homes, Keeps}
+use Rattle.mb_segment.specs.Vocabulary.{Account, AllHeed, Duty, Fits, Half, HalfFits, HasHalf, History, Homes, Keeps, Known}
 use Rattle.mb_segment.specs.Vocabulary.{Match, Quiet, Reads, Sat, Shut, Sight, Taken, Undrawn, View, Waiting}
 use Rattle.mb_segment.specs.Vocabulary.{Writes, closing, cuts_by, drawn, free, got_by, has_cut, if_hub, listed, member}
 use Rattle.mb_segment.specs.Vocabulary.{one_if_member, out, owed, sent_by, sleeping, spot, taken, total}
@@ -105,6 +105,8 @@ module _ {T : Type 0} where
     full = λ e. let r = f.full e in let m = o.as_many in let d = o.drawn_ in let i = o.within in omega arith;
     cut_ = λ e. let r = f.cut_ e in let m = o.cut_ in omega arith;
     empty = let l = f.empty in let m = o.more in omega arith;
+    heard = let a = f.heard.0 in let b = f.heard.1 in let d = o.drawn_ in let m = o.more in
+        (omega arith, omega arith, f.heard.2);
     over = λ e. let r = f.over e in o.over r.0 r.1;
   }
 
@@ -266,7 +268,7 @@ module _ {T : Type 0} where
   -- ---- a view that differs in what it owes alone
   abbrev pub Plain : View T → View T → Type 0
   Plain v w = (w.role ≡ v.role) × (w.account ≡ v.account) × (w.half ≡ v.half) × (w.sight ≡ v.sight)
-      × (w.over ≡ v.over) × (w.ends ≡ v.ends)
+      × (w.over ≡ v.over) × (w.ends ≡ v.ends) × (w.known ≡ v.known)
 
   pub refit : (h : History T) (states : List ℕ) (cut hub : ℕ) (roll : List ℕ) (n : ℕ) (v w : View T) → Plain v w
       → Fits h states cut hub roll n v → Fits h states cut hub roll n w
@@ -292,6 +294,11 @@ module _ {T : Type 0} where
     full = λ e. f.full (sym (ap (λ (x : Sight). x.full) p.3) ∙ e);
     cut_ = λ e. f.cut_ (sym (ap (λ (x : Sight). x.cut) p.3) ∙ e);
     empty = subst (λ (x : Sight). x.empty ≤ taken h) (sym p.3) f.empty;
+    heard = (
+      subst (λ (x : Known). x.drawn ≤ drawn h) (sym p.6) f.heard.0,
+      subst (λ (x : Known). x.taken ≤ taken h) (sym p.6) f.heard.1,
+      subst (λ (l : List (Account T)). AllHeed l) (λ i. sym p.1 i ∷ sym p.5 i) f.heard.2,
+    );
     over = λ e. f.over (sym p.4 ∙ e);
   }
 
@@ -313,6 +320,7 @@ module _ {T : Type 0} where
     full = full;
     cut_ = cut_;
     empty = empty;
+    heard = f.heard;
     over = f.over;
   }
 

@@ -12,7 +12,7 @@ use Rattle.mb_segment.proofs.Kept.{Goes, Plain, St, at0, at1, at_rest, loaded, r
 
 -- a view that differs in what it owes alone
 pub plain : {T : Type 0} (f : Duty → Duty) (v : View T) → Plain v (with_duty f v)
-plain f v = (refl, refl, refl, refl, refl, refl)
+plain f v = (refl, refl, refl, refl, refl, refl, refl)
 
 -- the pass owes other things, and is in the list as often as before
 abbrev pub StaysListed : (Duty → Duty) → Duty → Type 0
@@ -140,6 +140,7 @@ module _ {T : Type 0} where
               full = fit.full;
               cut_ = fit.cut_;
               empty = fit.empty;
+              heard = fit.heard;
               over = λ _. (shut_, empty);
             }
             (λ L O C L' O' C' l o c le q h. let e = lg.1 in

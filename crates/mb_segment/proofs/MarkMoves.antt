@@ -169,6 +169,7 @@ module _ {T : Type 0} where
                 full = λ e. let f = fit.full e in omega arith;
                 cut_ = fit.cut_;
                 empty = fit.empty;
+                heard = fit.heard;
                 over = λ e. let f = fit.over e in (
                   ap (λ (m : ℕ). free k.cut (m - drawn k.history)) many₀
                       ∙ f.0,

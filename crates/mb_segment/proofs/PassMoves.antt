@@ -37,6 +37,7 @@ module _ {T : Type 0} where
     full = λ e. absurd (true≢false (sym e));
     cut_ = λ e. absurd (true≢false (sym e));
     empty = omega arith;
+    heard = (omega arith, omega arith, (tt, tt, tt));
     over = λ e. absurd (true≢false (sym e));
   }
 
@@ -153,7 +154,7 @@ module _ {T : Type 0} where
             (λ there_. ⊎_elim
             (λ (t : (j ≡ n) × (w ≡ u)). subst (λ (y : ℕ × View T). Fits k.history k.states k.cut k.hub k.roll y.0
             y.1) (λ i. (sym t.0 i, t.1 i))
-            (refit k.history k.states k.cut k.hub k.roll n v w (refl, refl, refl, refl, refl, refl)
+            (refit k.history k.states k.cut k.hub k.roll n v w (refl, refl, refl, refl, refl, refl, refl)
             (k.fits n v at)))
             (λ (t : (j ≢ n) × (get_elem? s.views j ≡ some u)). k.fits j u t.1)
             (at_set s.views n j w u there_))
@@ -246,6 +247,8 @@ module _ {T : Type 0} where
           full = f.full;
           cut_ = f.cut_;
           empty = f.empty;
+          heard = let g = (k.fits other w was_other).heard in
+              (f.heard.0, f.heard.1, (f.heard.2.0, f.heard.2.1, (g.2.0, g.2.1, f.heard.2.2)));
           over = λ on. ⊎_elim f.over (k.fits other w was_other).over (either_over v.over w.over on);
         }
 
@@ -267,6 +270,7 @@ module _ {T : Type 0} where
           full = f.full;
           cut_ = f.cut_;
           empty = f.empty;
+          heard = f.heard;
           over = f.over;
         }
 

@@ -163,6 +163,7 @@ module _ {T : Type 0} where
                 full = λ e. let f = fit.full e in omega arith;
                 cut_ = fit.cut_;
                 empty = fit.empty;
+                heard = fit.heard;
                 over = λ e. let f = fit.over e in (frees ∙ f.0, f.1);
               };
               laws = λ L O C L' O' C' l o c le q h. (

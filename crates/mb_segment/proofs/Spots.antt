@@ -4,8 +4,8 @@ use Rattle.mb_segment.proofs.Base.{if◌then◌else◌, inl, inr, length, length
 use Rattle.mb_segment.proofs.Base.{replicate, slice_index, slice_set, some, some-injective}
 use Rattle.mb_segment.proofs.Base.{some-ne-none, subst, suc, sym, true, zero, ℕ, ⊎_elim, ◌++◌, ◌+◌, ◌<◌, ◌≤◌, ◌∙◌}
 use Rattle.mb_segment.proofs.Base.{◌∷◌, ◌≡◌, ◌≢◌, ◌⊎◌}
-use Rattle.mb_segment.specs.Vocabulary.{Below, Claim, Entry, History, all_entries, drawn, entries, spot, spots_by}
-use Rattle.mb_segment.specs.Vocabulary.{spots_to}
+use Rattle.mb_segment.specs.Vocabulary.{Below, Claim, Entry, Heard, Heeds, History, Spot, View, all_entries, drawn, drew}
+use Rattle.mb_segment.specs.Vocabulary.{entries, spot, spots_by, spots_to, taken, took}
 
 pub size_set : {A : Type 0} (l : List A) (i : ℕ) (w : A) → length (slice_set l i w) ≡ length l
 size_set [] i w = refl
@@ -152,3 +152,28 @@ module _ {T : Type 0} where
   entry_of [] es m c at = absurd (some-ne-none c (sym at))
   entry_of (d ∷ ds) es zero c at = ap (λ (z : Claim T). some z.entry) (some-injective d c at)
   entry_of (d ∷ ds) es (suc m) c at = entry_of ds es m c at
+
+module _ {T : Type 0} where
+  -- one call more, at position p, by a pass that knew of k before
+  heeds_more : (p : ℕ) (x : T) (k : ℕ) (ss : List (Spot T)) (ks : List ℕ) → k ≤ p → Heeds ss ks
+      → Heeds (ss ++ spot p x ∷ []) (ks ++ k ∷ [])
+  heeds_more p x k [] [] le h = (le, tt)
+  heeds_more p x k [] (j ∷ ks) le h = absurd h
+  heeds_more p x k (s ∷ ss) [] le h = absurd h
+  heeds_more p x k (s ∷ ss) (j ∷ ks) le h = (h.0, heeds_more p x k ss ks le h.1)
+
+  pub heard_draw : (h g : History T) (p : ℕ) (x : T) (v : View T) → drawn h ≤ p → p < drawn g → taken h ≤ taken g
+      → Heard h v → Heard g (drew p x v)
+  heard_draw h g p x v next more taken_ f = let a = f.0 in let b = f.1 in (
+    omega arith,
+    omega arith,
+    (heeds_more p x v.known.drawn v.account.sent v.account.sent_knew (omega arith) f.2.0, f.2.1, f.2.2),
+  )
+
+  pub heard_claim : (h g : History T) (p : ℕ) (x : T) (v : View T) → taken h ≤ p → p < taken g → drawn h ≤ drawn g
+      → p < drawn g → Heard h v → Heard g (took p x v)
+  heard_claim h g p x v next more drawn_ within f = let a = f.0 in let b = f.1 in (
+    omega arith,
+    omega arith,
+    (f.2.0, heeds_more p x v.known.taken v.account.got v.account.got_knew (omega arith) f.2.1, f.2.2),
+  )

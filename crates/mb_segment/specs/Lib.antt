@@ -4,6 +4,7 @@ pub mod History
 pub mod Sleeping
 pub mod Slots
 pub mod Passes
+pub mod Heard
 pub mod Rule
 pub mod Moves
 pub mod Steps

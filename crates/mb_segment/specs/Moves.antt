@@ -1,5 +1,5 @@
 -- How a step changes a view.
-use Rattle.std.specs.Prelude.{Bool, List, Some, [], false, true, ℕ, ◌+◌, ◌++◌, ◌-◌, ◌<◌, ◌∷◌, ◌≡◌}
+use Rattle.std.specs.Prelude.{Bool, List, Some, [], false, max, suc, true, ℕ, ◌+◌, ◌++◌, ◌-◌, ◌<◌, ◌∷◌, ◌≡◌}
 use Rattle.mb_segment.specs.Types.{Duty, Nothing, Reads, Spot, View, Writes}
 use Rattle.mb_segment.specs.History.{spot}
 use Rattle.mb_segment.specs.Passes.{blank, blind}
@@ -10,10 +10,24 @@ with_duty f v = record v { duty = f v.duty }
 -- ---- positions
 -- it drew position p for the value x, which counts as sent
 abbrev pub drew : {T : Type 0} → ℕ → T → View T → View T
-drew p x v = record v { account = record v.account { sent = v.account.sent ++ spot p x ∷ [] }; half = Writes (spot p x) }
+drew p x v = record v {
+  account = record v.account {
+    sent = v.account.sent ++ spot p x ∷ [];
+    sent_knew = v.account.sent_knew ++ v.known.drawn ∷ [];
+  };
+  known = record v.known { drawn = suc p };
+  half = Writes (spot p x);
+}
 
 abbrev pub took : {T : Type 0} → ℕ → T → View T → View T
-took p x v = record v { account = record v.account { got = v.account.got ++ spot p x ∷ [] }; half = Reads (spot p x) }
+took p x v = record v {
+  account = record v.account {
+    got = v.account.got ++ spot p x ∷ [];
+    got_knew = v.account.got_knew ++ v.known.taken ∷ [];
+  };
+  known = record { drawn = max v.known.drawn (suc p); taken = suc p };
+  half = Reads (spot p x);
+}
 
 -- it has marked the position, or read it
 abbrev pub ended : {T : Type 0} → View T → View T
@@ -127,7 +141,7 @@ abbrev pub bare : {T : Type 0} → View T → View T
 bare v = record v { sight = blind }
 
 abbrev pub calm : {T : Type 0} → View T → View T
-calm v = record blank { account = v.account; over = v.over }
+calm v = record blank { account = v.account; known = v.known; over = v.over }
 
 -- the view is a pass's, which owes nothing, has nothing begun and is not in the list
 abbrev pub IsCalm : {T : Type 0} → View T → Type 0

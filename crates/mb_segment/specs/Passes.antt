@@ -1,6 +1,6 @@
 -- Which passes are out, and what those that came back had done.
 use Rattle.std.specs.Prelude.{List, None, [], ℕ, ◌∷◌, ◌≡◌, ◌⊎◌, false}
-use Rattle.mb_segment.specs.Types.{Account, Duty, Issuer, Member, Nothing, Role, Sight, Spent, View}
+use Rattle.mb_segment.specs.Types.{Account, Duty, Issuer, Known, Member, Nothing, Role, Sight, Spent, View}
 use Rattle.mb_segment.specs.History.{History, got_by, has_cut, sent_by}
 
 abbrev pub In : ℕ → List ℕ → Type 0
@@ -44,13 +44,17 @@ abbrev pub blind : Sight
 blind = record { low = 0; ripe = None; full = false; cut = false; empty = 0 }
 
 abbrev pub nothing_done : {T : Type 0} → Account T
-nothing_done = record { sent = []; got = []; cut = false }
+nothing_done = record { sent = []; got = []; cut = false; sent_knew = []; got_knew = [] }
+
+abbrev pub ignorant : Known
+ignorant = record { drawn = 0; taken = 0 }
 
 -- a pass that did nothing, saw nothing and owes nothing
 abbrev pub blank : {T : Type 0} → View T
 blank = record {
   role = Member;
   account = nothing_done;
+  known = ignorant;
   half = Nothing;
   duty = no_duty;
   sight = blind;

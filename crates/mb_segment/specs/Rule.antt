@@ -9,6 +9,7 @@ use Rattle.atomic_table.specs.Table.{State}
 use Rattle.mb_segment.specs.Types.{Issuer, Member, Nothing, Spent, View}
 use Rattle.mb_segment.specs.History.{History, cuts_by, drawn, got_by, has_cut, sent_by, taken}
 use Rattle.mb_segment.specs.Passes.{Distinct, In, Match, member, out}
+use Rattle.mb_segment.specs.Heard.{Heard}
 use Rattle.mb_segment.specs.Sleeping.{Quiet, Shut, closing, free, listed, owed, sleeping, total}
 use Rattle.mb_segment.specs.Slots.{HalfFits, Taken, Undrawn, Waiting}
 
@@ -38,6 +39,7 @@ pub record Fits {T : Type 0} (h : History T) (states : List ℕ) (cut hub : ℕ)
   pub full : v.sight.full ≡ true → drawn h ≡ length states
   pub cut_ : v.sight.cut ≡ true → 0 < cut
   pub empty : v.sight.empty ≤ taken h
+  pub heard : Heard h v
   pub over : v.over ≡ true → (free cut (length states - drawn h) ≡ 0) × (h.rest ≡ [])
 
 pub record Keeps {T : Type 0} (s : State (Option T) (View T)) : Type 0 where

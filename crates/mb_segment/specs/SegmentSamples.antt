@@ -1,5 +1,5 @@
 -- Segments of numbers: some that the definitions admit, and some that they refuse. Pass 1 sends, pass 2 receives.
-use Rattle.std.specs.Prelude.{Bool, List, None, Some, [], false, true, ℕ, ◌∷◌}
+use Rattle.std.specs.Prelude.{Bool, List, None, Some, [], false, map, true, ℕ, ◌∷◌}
 use mathlib.Core.Option.{some}
 use Rattle.mb_segment.specs.Types.{Account, Spot, View}
 use Rattle.mb_segment.specs.History.{Claim, Entry, History, spot}
@@ -19,7 +19,7 @@ abbrev pub history : History ℕ
 history = record { claims = claim 1 10 2 ∷ []; rest = entry 1 11 ∷ []; cutter = Some 1 }
 
 abbrev pub account : List (Spot ℕ) → List (Spot ℕ) → Bool → Account ℕ
-account s g c = record { sent = s; got = g; cut = c }
+account s g c = record { sent = s; got = g; cut = c; sent_knew = map (λ p. 0) s; got_knew = map (λ p. 0) g }
 
 -- two positions in the wrong order
 abbrev pub falling : List (Spot ℕ)
@@ -27,6 +27,10 @@ falling = spot 1 11 ∷ spot 0 10 ∷ []
 
 abbrev pub sender : Account ℕ
 sender = account (spot 0 10 ∷ spot 1 11 ∷ []) [] true
+
+-- it knew of position 0 before it drew that
+abbrev pub foreknown : Account ℕ
+foreknown = record sender { sent_knew = 1 ∷ 1 ∷ [] }
 
 abbrev pub receiver : Account ℕ
 receiver = account [] (spot 0 10 ∷ []) false

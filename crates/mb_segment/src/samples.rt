@@ -3,14 +3,15 @@
 ghost use Rattle.std.specs.Prelude.{List, [], ℕ, ◌∷◌, ◌≡◌};
 ghost use Rattle.mb_segment.specs.{IsCalm, IsCut, IsOver, IsWhole, Keeps, Rises, SawAllTaken, drawn_in, got_by, owes_wake};
 ghost use Rattle.mb_segment.specs.{sent_by, with_duty};
-ghost use Rattle.mb_segment.specs.SegmentSamples.{cutter, falling, history, overslept, receiver, saw, sender, unused, view};
+ghost use Rattle.mb_segment.specs.SegmentSamples.{cutter, falling, foreknown, history, overslept, receiver, saw, sender, unused, view};
 
-/// The end. Two accounts and what is left of one history are admitted. Refused: a value that two received, and two that
-/// cut.
+/// The end. Two accounts and what is left of one history are admitted. Refused: a value that two received, two that cut,
+/// and a send to a position that its pass knew to be drawn.
 pub fn sample_ends()
     ensures admitted { IsWhole (sender ∷ receiver ∷ []) (11 ∷ []) }
     ensures twice { (left : List ℕ) → IsWhole (receiver ∷ receiver ∷ []) left → ⊥ }
     ensures cutters { (left : List ℕ) → IsWhole (cutter ∷ cutter ∷ []) left → ⊥ }
+    ensures unheeded { (left : List ℕ) → IsWhole (foreknown ∷ receiver ∷ []) left → ⊥ }
 {}
 
 /// The rule. A new segment is admitted. Refused: one that is cut before a pass is issued, and one in which a receiver

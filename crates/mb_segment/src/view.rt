@@ -12,6 +12,10 @@ pub struct Account<T> {
     pub sent: LinkedList<Spot<T>>,
     pub got: LinkedList<Spot<T>>,
     pub cut: bool,
+    /// For each send, how many positions the pass knew to be drawn when it drew. For each receive, how many it knew to
+    /// be claimed when it claimed.
+    pub sent_knew: LinkedList<u64>,
+    pub got_knew: LinkedList<u64>,
 }
 
 /// Who holds the view.
@@ -63,9 +67,16 @@ pub struct Sight {
     pub empty: u64,
 }
 
+/// What a pass has learned by its own calls: as many positions as this are drawn, and claimed.
+pub struct Known {
+    pub drawn: u64,
+    pub taken: u64,
+}
+
 pub struct View<T> {
     pub role: Role,
     pub account: Account<T>,
+    pub known: Known,
     pub half: Half<T>,
     pub duty: Duty,
     pub sight: Sight,

@@ -25,6 +25,7 @@ returns-clause-admitted c = record {
   receivers = claimed_here;
   closer = λ n e. inl (sym (same_some 1 n e));
   left_is = refl;
+  heeds = ((omega arith, (omega arith, tt)), tt, (tt, (omega arith, tt), tt));
 }
 
 -- two accounts are those of two numbers
@@ -52,3 +53,6 @@ returns-clause-cutters c left w =
     let t = two w.history _ _ w.numbers w.apart w.accounts_ in
     t.2 (same_some t.0 t.1 (sym (is_cutter t.0 w.history.cutter (sym t.5)).1
     ∙ (is_cutter t.1 w.history.cutter (sym t.6)).1))
+
+pub returns-clause-unheeded : goal.returns-clause-unheeded
+returns-clause-unheeded c left w = let le = w.heeds.0.0 in absurd (omega arith)
