@@ -2,20 +2,21 @@
 //! their contracts are the samples.
 ghost use Rattle.std.specs.Prelude.{[], ◌∷◌, true, false};
 ghost use Rattle.mb_channel.specs.ChannelSamples.{forgotten, one_sender, one_taken, overtaken, overtaken_life, swapped_life};
-ghost use Rattle.mb_channel.specs.ChannelSamples.{taken_twice, two_and_two, two_segments, unheeded, unheeded_life};
+ghost use Rattle.mb_channel.specs.ChannelSamples.{taken_twice, two_and_two, two_segments, two_taken, unheeded, unheeded_life, unheeded_take};
 ghost use Rattle.mb_channel.specs.ChannelSamples.{ended, refused_beside_a_receiver, told_beside_a_sender, told_too_soon, value_behind};
 ghost use Rattle.mb_channel.specs.ChannelSamples.{looked_for, overslept, slept_past_the_end, slept_through_the_end, token_elsewhere};
 ghost use Rattle.mb_channel.specs.ChannelSamples.{sleepers, two_forsaken, two_wait};
 ghost use Rattle.mb_channel.specs.ChannelTheorem.{EachBounded, EachMoment, WholeLife};
 
 /// Points 1 to 3. A life over two segments is admitted. Refused: values of one sender that stand in another order, a
-/// value that stands before one that its sender knew of, a value that two received, one that overtook another, one that
-/// its taker did not receive, and one that is left and not given back.
+/// value that stands before one that its sender knew of, a value that two received, a take before one that its receiver
+/// knew of, a value that overtook another, one that its taker did not receive, and one that is left and not given back.
 pub fn sample_lives()
     ensures admitted { WholeLife two_segments two_and_two (11 ∷ []) }
     ensures swapped { WholeLife swapped_life one_sender (11 ∷ 10 ∷ []) → ⊥ }
     ensures unheeded { WholeLife unheeded_life unheeded (20 ∷ 10 ∷ []) → ⊥ }
     ensures twice { WholeLife one_taken taken_twice [] → ⊥ }
+    ensures unheeded_take { WholeLife two_taken unheeded_take [] → ⊥ }
     ensures overtaken { WholeLife overtaken_life overtaken (10 ∷ []) → ⊥ }
     ensures forgotten { WholeLife one_taken forgotten [] → ⊥ }
     ensures lost { WholeLife two_segments two_and_two [] → ⊥ }
