@@ -1,7 +1,10 @@
 //! The laws of a channel. The functions compute nothing: their contracts are the laws.
-ghost use Rattle.std.specs.Prelude.{ℕ, List};
+ghost use Rattle.std.specs.Prelude.{ℕ, ◌≤◌, List};
 ghost use Rattle.mb_channel.specs.ChannelTheorem.{EachMoment, End, History, Moment, Segment, WholeLife, life};
 ghost use Rattle.mb_channel.specs.Stays.{AreStays, Told, life_of};
+ghost use Rattle.mb_channel.specs.Types.{Home, Knows};
+ghost use Rattle.mb_channel.specs.Homes.{IsWhole};
+ghost use Rattle.mb_channel.specs.Lives.{DoneInTurn, HaveEnded, HaveLived, all_left, end_in};
 ghost use Rattle.mb_channel.specs.Segments.{AreLogs, EachKeeps, InTurn, KeepsEnd, TakenInTurn};
 
 /// At each moment: if each segment keeps its own rule, and they follow each other in turn, the channel's points hold.
@@ -23,4 +26,14 @@ pub fn lives_keep_the_theorem<T>()
 pub fn passes_make_ends<T>()
     ensures life { (ts : List (Told T)) (ends : ℕ → End T) (back : List T)
         → AreStays ts ends back → WholeLife (life_of ts) ends back }
+{}
+
+/// Of a whole life: let the list end, and each of its segments. What the ends did is then read off their visits, what is
+/// given back is what the segments had left, and both are of one life. What an end knew is no part of its visits: any
+/// numbers `s` for sends and `r` for takes will do that are no more than the place.
+pub fn lists_make_lives<T: Drop>()
+    ensures life { (v : Knows T) (hs : List (Home T)) (ls : List (List T))
+        → IsWhole v hs → HaveEnded hs ls → DoneInTurn hs
+        → (s r : ℕ → ℕ) → ((p : ℕ) → (s p ≤ p) × (r p ≤ p))
+        → HaveLived (end_in s r v hs) (all_left ls) }
 {}
