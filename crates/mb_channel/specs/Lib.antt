@@ -4,3 +4,5 @@ pub mod Segments
 pub mod Stays
 pub mod Types
 pub mod Homes
+pub mod Lives
+pub mod LifeSamples
