@@ -68,11 +68,11 @@ fn send_both<R: Threads + Wait + Sync>(
         rt,
         move || -> Idle<u64>
             requires { a.seat.table_id ≡ segment.now.table.shared.table_id }
-            ensures { result.seat.table_id ≡ segment.now.table.shared.table_id }
+            ensures { result.seat.table_id ≡ segment.entry.now.table.shared.table_id }
         { send_all(rt, segment, a, many) },
         move || -> Idle<u64>
             requires { b.seat.table_id ≡ segment.now.table.shared.table_id }
-            ensures { result.seat.table_id ≡ segment.now.table.shared.table_id }
+            ensures { result.seat.table_id ≡ segment.entry.now.table.shared.table_id }
         { send_all(rt, segment, b, many) },
     )
 }
@@ -94,11 +94,11 @@ fn receive_both<R: Threads + Wait + Sync>(
         rt,
         move || -> (u64, u64, Idle<u64>)
             requires { a.seat.table_id ≡ segment.now.table.shared.table_id }
-            ensures { result.2.seat.table_id ≡ segment.now.table.shared.table_id }
+            ensures { result.2.seat.table_id ≡ segment.entry.now.table.shared.table_id }
         { receive_all(rt, segment, a, most) },
         move || -> (u64, u64, Idle<u64>)
             requires { b.seat.table_id ≡ segment.now.table.shared.table_id }
-            ensures { result.2.seat.table_id ≡ segment.now.table.shared.table_id }
+            ensures { result.2.seat.table_id ≡ segment.entry.now.table.shared.table_id }
         { receive_all(rt, segment, b, most) },
     )
 }
@@ -122,14 +122,14 @@ fn run_four<R: Threads + Wait + Sync>(
         move || -> ((u64, u64, Idle<u64>), (u64, u64, Idle<u64>))
             requires { IsSync R.row × (a.seat.table_id ≡ w.now.table.shared.table_id)
                 × (b.seat.table_id ≡ w.now.table.shared.table_id) }
-            ensures { (result.0.2.seat.table_id ≡ w.now.table.shared.table_id)
-                × (result.1.2.seat.table_id ≡ w.now.table.shared.table_id) }
+            ensures { (result.0.2.seat.table_id ≡ w.entry.now.table.shared.table_id)
+                × (result.1.2.seat.table_id ≡ w.entry.now.table.shared.table_id) }
         { receive_both(rt, w, a, b, most) },
         move || -> (Idle<u64>, Idle<u64>)
             requires { IsSync R.row × (c.seat.table_id ≡ w.now.table.shared.table_id)
                 × (d.seat.table_id ≡ w.now.table.shared.table_id) }
-            ensures { (result.0.seat.table_id ≡ w.now.table.shared.table_id)
-                × (result.1.seat.table_id ≡ w.now.table.shared.table_id) }
+            ensures { (result.0.seat.table_id ≡ w.entry.now.table.shared.table_id)
+                × (result.1.seat.table_id ≡ w.entry.now.table.shared.table_id) }
         { send_both(rt, w, c, d, many) },
     );
     segment.take_back(&mut hub, x.2.pass());
