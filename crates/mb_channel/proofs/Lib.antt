@@ -1,6 +1,7 @@
 mod Back
 mod Chairs
 mod Ends
+mod Freed
 mod Logs
 mod Members
 mod Moves

@@ -4,3 +4,4 @@ pub mod Segments
 pub mod Stays
 pub mod Types
 pub mod Homes
+pub mod Answers
