@@ -1,12 +1,12 @@
 //! Passes of the segments in the list: the hubs issue them and take them back.
 ghost use Rattle.std.specs.Prelude.{◌≡◌, ◌<◌, ◌≤◌, ◌-◌, length, true, IfOk, IfErr, IfSome, OnErr, IfNone, ◌++◌, ◌∷◌, [], List};
 ghost use Rattle.mb_segment.specs.Seats.{view_in as pass_view};
-ghost use Rattle.mb_segment.specs.Vocabulary.{IsFree, blank};
-ghost use Rattle.mb_channel.specs.Homes.{At, Changes, HasIssued, HasTakenBack, IsFreed, IsNew, Stands, out_of};
+ghost use Rattle.mb_segment.specs.Vocabulary.{HasLeft, IsFree, IsWhole as SegmentIsWhole, blank};
+ghost use Rattle.mb_channel.specs.Homes.{At, Changes, HasIssued, HasTakenBack, IsDone, IsFreed, IsNew, Stands, came_back, out_of};
 ghost use Rattle.mb_channel.specs.declared.home.Home.{Home};
 
 use crate::home::{Home, Homes, Shared};
-use mb_segment::{Pass, Segment};
+use mb_segment::{Left, Pass, Segment};
 use std::alloc::{AllocError, Global};
 use std::collections::VecDeque;
 use std::sync::Arc;
@@ -58,6 +58,31 @@ impl<T: Drop> Home<T> {
         Some((segment, self.segment.issue(&mut self.hub)))
     }
 
+    /// Ends the segment, of which no pass is out, and gives out what is left there. It comes back if an end still has a
+    /// share of it.
+    pub fn end(self) -> Result<Left<T>, Home<T>>
+        requires back { out_of self ≡ 0 }
+        ensures whole { IfOk result (λ l. (left : List T) × SegmentIsWhole (came_back self) left
+            × HasLeft l left × (IsDone self → left ≡ [])) }
+        ensures shared { IfErr result (λ h. h ≡ self) }
+    {
+        let Home {
+            segment,
+            hub,
+            out,
+            done,
+        } = self;
+        match Arc::try_unwrap(segment) {
+            Ok(segment) => Ok(segment.end(hub)),
+            Err(segment) => Err(Home {
+                segment,
+                hub,
+                out,
+                done,
+            }),
+        }
+    }
+
     /// Frees a segment that is done and has no pass out. Any other comes back, and so does one of which an end has a
     /// share.
     fn free(self) -> Result<(), Home<T>>
@@ -70,23 +95,12 @@ impl<T: Drop> Home<T> {
         if self.out != 0 {
             return Err(self);
         }
-        let Home {
-            segment,
-            hub,
-            out,
-            done,
-        } = self;
-        match Arc::try_unwrap(segment) {
-            Ok(segment) => {
-                drop(segment.end(hub));
+        match self.end() {
+            Ok(left) => {
+                drop(left);
                 Ok(())
             }
-            Err(segment) => Err(Home {
-                segment,
-                hub,
-                out,
-                done,
-            }),
+            Err(home) => Err(home),
         }
     }
 }
