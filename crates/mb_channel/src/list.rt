@@ -121,7 +121,8 @@ impl<T: Drop> List<T> {
     /// A list with no segment, and its first chair. The error is [`AllocError`] if the allocator refuses the memory.
     pub fn new(alloc: Global) -> Result<(List<T>, Chair<T>), AllocError>
         ensures list { IfOk result (λ r. r.1.table_id ≡ r.0.table.shared.table_id) }
-        ensures first { IfOk result (λ r. IsReady r.1.me × IsFirst (view_in r.1)) }
+        ensures first { IfOk result (λ r. IsReady r.1.me × IsFirst (view_in r.1)
+            × ((view_in r.1).at ≡ 0) × ((view_in r.1).takes ≡ true)) }
     {
         let homes = no_homes(alloc)?;
         match Table::new(alloc, &[0, 1], homes, &()) {
