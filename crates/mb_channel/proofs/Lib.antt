@@ -3,6 +3,7 @@ mod Back
 mod Chairs
 mod Counts
 mod Ends
+mod Freed
 mod Lives
 mod Logs
 mod Members
