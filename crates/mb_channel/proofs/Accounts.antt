@@ -94,7 +94,7 @@ module _ {T : Type 0} where
   did_so h (n ∷ ns) (m ∷ ms) is = (
     ap (map pos) is.0 ∙ by_same n 0 (seg.all_entries h) ∙ ap (spots_by n 0) (all_same h),
     ap (map pos) is.1 ∙ to_same n 0 h.claims,
-    did_so h ns ms is.2,
+    did_so h ns ms is.3,
   )
 
   -- ---- no two have the same pass or the same end
@@ -191,7 +191,7 @@ module _ {T : Type 0} where
   in_pass h n [] [] is here = here
   in_pass h n (k ∷ ns) [] is here = is
   in_pass h n [] (m ∷ ms) is here = here
-  in_pass h n (k ∷ ns) (m ∷ ms) is here = ⊎_elim (λ e. inl e) (λ r. inr (in_pass h n ns ms is.2 r)) here
+  in_pass h n (k ∷ ns) (m ∷ ms) is here = ⊎_elim (λ e. inl e) (λ r. inr (in_pass h n ns ms is.3 r)) here
 
   pub all_by : (ss : List (Stay T)) (es : List (seg.Entry T))
       → ((k : ℕ) (e : seg.Entry T) → get_elem? es k ≡ some e → IsPass e.by ss) → AllBy ss (map entry es)
@@ -227,4 +227,4 @@ module _ {T : Type 0} where
   none_got h [] (a ∷ xs) is none_ m here = absurd is
   none_got h (n ∷ ns) (a ∷ xs) is none_ m here = ⊎_elim
       (λ e. ap (λ j. seg.got_by j h) e ∙ sym is.1 ∙ none_ 0 a refl)
-      (λ r. none_got h ns xs is.2 (λ k b at. none_ (suc k) b at) m r) here
+      (λ r. none_got h ns xs is.3 (λ k b at. none_ (suc k) b at) m r) here

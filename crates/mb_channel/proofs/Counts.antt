@@ -68,7 +68,7 @@ module _ {T : Type 0} where
   counted h [] [] is = refl
   counted h (n ∷ ns) [] is = absurd is
   counted h [] (a ∷ xs) is = absurd is
-  counted h (n ∷ ns) (a ∷ xs) is = let r = counted h ns xs is.2 in let e = ap length is.0 in omega arith
+  counted h (n ∷ ns) (a ∷ xs) is = let r = counted h ns xs is.3 in let e = ap length is.0 in omega arith
 
   pub drawn_told : (xs : List (Account T)) (left : List T) (w : IsToldWhole xs left)
       → drawn (history_of w.history) ≡ count_sent xs

@@ -12,4 +12,4 @@ mod Stays
 mod Theorems
 mod Turns
 mod Views
-mod Visits
+mod Visited

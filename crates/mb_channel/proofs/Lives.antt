@@ -3,21 +3,21 @@ use Rattle.std.proofs.Common.{ℕ, zero, suc, Bool, true, false, true≢false, L
 use Rattle.std.proofs.Common.{◌≡◌, ◌+◌, ◌<◌, ◌≤◌, ◌⊎◌, ◌∷◌, ◌++◌, ◌∙◌, if◌then◌else◌}
 use mathlib.Core.Option.{some, some-injective, some-ne-none}
 use lib.ListN.{get_elem?}
-use native.Mathlib.Decide.{ℕ_discrete}
+use native.Mathlib.Decide.{dec_lt, ℕ_discrete}
 use Rattle.std.proofs.lemmas.List.{map-append}
 use Rattle.mb_segment.specs.History as seg
-use Rattle.mb_segment.specs.Vocabulary.{In, IsWhole as IsToldWhole, hub_view}
+use Rattle.mb_segment.specs.Vocabulary.{AllHeed, Heeds, In, IsWhole as IsToldWhole, hub_view}
 use Rattle.mb_channel.specs.Types.{Account, Home, Knows, Position}
 use Rattle.mb_channel.specs.ChannelTheorem.{Spot, left, taken}
 use Rattle.mb_channel.specs.Homes.{AllMade, At, IsDone, IsNext, IsWhole, Made, came_back, made_by, made_in}
 use Rattle.mb_channel.specs.Segments.{TakenInTurn, drawn}
 use Rattle.mb_channel.specs.Stays.{AreStays, Stay, Told, log_of, logs_of, moved_by}
-use Rattle.mb_channel.specs.Lives.{DoneInTurn, HaveEnded, HaveLived, all_left, count_sent, end_in, placed, spots_in, visits_of}
+use Rattle.mb_channel.specs.Lives.{DoneInTurn, HaveEnded, HaveLived, all_left, count_sent, end_in, placed, visits_of}
 use Rattle.mb_channel.proofs.Accounts.{EachFalls, accounts, accounts_at, claim, entry, made_at, none_got, pos, stay, told}
 use Rattle.mb_channel.proofs.Counts.{drawn_told}
-use Rattle.mb_channel.proofs.Places.{all_rows, at_visit, falls_within, log_here, moved_placed, rows, within}
-use Rattle.mb_channel.proofs.Views.{there}
-use Rattle.mb_channel.proofs.Visits.{all_behind, each_falls, spots_called, visits_are}
+use Rattle.mb_channel.proofs.Places.{all_rows, at_visit, falls_within, log_here, moved_placed, rows, spots_in, within}
+use Rattle.mb_channel.proofs.Views.{made_map, there}
+use Rattle.mb_channel.proofs.Visited.{AllVisits, all_behind, each_falls, made_heed, spots_called, visits_are, visits_made}
 use Rattle.mb_channel.proofs.Theorems.{passes_are_ends}
 
 module _ {T : Type 0} where
@@ -172,6 +172,29 @@ module _ {T : Type 0} where
           let same = some-injective d.0 h (sym d.1 ∙ ap (get_elem? whole) z ∙ here 0) in
           true≢false (sym d.2 ∙ ap (λ (x : Home T). (hub_view x.hub).over) same ∙ is)))
 
+  -- ---- each visit heeds what was known
+  segments_heed : (hs : List (Home T)) (ls : List (List T)) → HaveEnded hs ls → (k : ℕ) (h : Home T)
+      → get_elem? hs k ≡ some h → AllHeed (came_back h)
+  segments_heed [] ls ended k h at = absurd (some-ne-none h (sym at))
+  segments_heed (g ∷ hs) [] ended k h at = absurd ended
+  segments_heed (g ∷ hs) (l ∷ ls) ended zero h at =
+      subst (λ (x : Home T). AllHeed (came_back x)) (some-injective g h at) ended.0.heeds
+  segments_heed (g ∷ hs) (l ∷ ls) ended (suc k) h at = segments_heed hs ls ended.2 k h at
+
+  is_there : (hs : List (Home T)) (k : ℕ) → k < length hs → (h : Home T) × (get_elem? hs k ≡ some h)
+  is_there [] k lt = absurd (omega arith)
+  is_there (h ∷ hs) zero lt = (h, refl)
+  is_there (h ∷ hs) (suc k) lt = is_there hs k (omega arith)
+
+  each_heeds : (v : Knows T) (hs : List (Home T)) (ls : List (List T)) (w : IsWhole v hs) → HaveEnded hs ls
+      → (k : ℕ) → AllHeed (made_in k w.all)
+  each_heeds v hs ls w ended k = go (dec_lt k (length hs))
+    where
+      go : Dec (k < length hs) → AllHeed (made_in k w.all)
+      go (yes lt) = let h = is_there hs k lt in
+          subst (λ l. AllHeed l) (w.agrees.here k h.0 h.1) (segments_heed hs ls ended k h.0 h.1)
+      go (no far) = subst (λ l. AllHeed l) (sym (w.agrees.none_behind k (omega arith))) tt
+
   -- ---- the whole life
   spots_are : (f : Stay T → List (Spot T)) (g : Account T → List (Position T))
       → ((n : ℕ) (m : Made T) → f (stay n m) ≡ map pos (g m.visit.account))
@@ -186,21 +209,32 @@ module _ {T : Type 0} where
       ∙ sym (logs_rows f g same n 0 0 w.all each hs ls agree ended)
 
   pub have_lived : (v : Knows T) (hs : List (Home T)) (ls : List (List T)) → IsWhole v hs → HaveEnded hs ls
-      → DoneInTurn hs → (s r : ℕ → ℕ) → ((p : ℕ) → (s p ≤ p) × (r p ≤ p)) → HaveLived (end_in s r v hs) (all_left ls)
-  have_lived v hs ls w ended done s r le =
+      → DoneInTurn hs → HaveLived (end_in v hs) (all_left ls)
+  have_lived v hs ls w ended done =
       let each = each_falls v hs w in
       let agree : Agree 0 w.all hs = λ j h at. (let z : j ≡ 0 + j = omega arith in
       w.agrees.here j h at ∙ ap (λ i. made_in i w.all) z) in
       let ts = tolds 0 w.all each hs ls agree ended in
-      let a : AreStays ts (end_in s r v hs) (all_left ls) = record {
-        sends = λ n. spots_called s (spots_in (λ a. a.sent) hs (visits_of n v))
+      let heed = made_heed w.all (each_heeds v hs ls w ended) in
+      let sent : (n : ℕ) → AllVisits (λ a. Heeds a.sent a.sent_knew) (visits_of n v) = λ n. subst
+      (λ l. AllVisits (λ a. Heeds a.sent a.sent_knew) l) (sym (visits_are v hs w n))
+      (visits_made (λ a. Heeds a.sent a.sent_knew) n w.all (made_map
+      (λ m. Heeds m.visit.account.sent m.visit.account.sent_knew × Heeds m.visit.account.got m.visit.account.got_knew)
+      (λ m. Heeds m.visit.account.sent m.visit.account.sent_knew) w.all (λ m x. x.0) heed)) in
+      let got : (n : ℕ) → AllVisits (λ a. Heeds a.got a.got_knew) (visits_of n v) = λ n. subst
+      (λ l. AllVisits (λ a. Heeds a.got a.got_knew) l) (sym (visits_are v hs w n))
+      (visits_made (λ a. Heeds a.got a.got_knew) n w.all (made_map
+      (λ m. Heeds m.visit.account.sent m.visit.account.sent_knew × Heeds m.visit.account.got m.visit.account.got_knew)
+      (λ m. Heeds m.visit.account.got m.visit.account.got_knew) w.all (λ m x. x.1) heed)) in
+      let a : AreStays ts (end_in v hs) (all_left ls) = record {
+        sends = λ n. spots_called (λ a. a.sent) (λ a. a.sent_knew) hs (visits_of n v) (sent n)
             ∙ spots_are (λ s. s.sent) (λ a. a.sent) (λ n m. refl) v hs ls w ended agree n;
-        after = λ n. all_behind s (λ p. (le p).0) (spots_in (λ a. a.sent) hs (visits_of n v));
-        takes = λ n. spots_called r (spots_in (λ a. a.got) hs (visits_of n v))
+        after = λ n. all_behind (λ a. a.sent) (λ a. a.sent_knew) hs (visits_of n v) (sent n);
+        takes = λ n. spots_called (λ a. a.got) (λ a. a.got_knew) hs (visits_of n v) (got n)
             ∙ spots_are (λ s. s.got) (λ a. a.got) (λ n m. refl) v hs ls w ended agree n;
-        later = λ n. all_behind r (λ p. (le p).1) (spots_in (λ a. a.got) hs (visits_of n v));
+        later = λ n. all_behind (λ a. a.got) (λ a. a.got_knew) hs (visits_of n v) (got n);
         rest = left_rows 0 w.all each hs ls agree ended;
         turn = turn_rows hs 0 w.all each hs ls agree ended w.agrees.turn
             (λ j. let z : 0 + j ≡ j = omega arith in ap (get_elem? hs) z) done;
       } in
-      (ts, a, passes_are_ends ts (end_in s r v hs) (all_left ls) a)
+      (ts, a, passes_are_ends ts (end_in v hs) (all_left ls) a)

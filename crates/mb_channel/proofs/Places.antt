@@ -9,10 +9,15 @@ use Rattle.mb_channel.specs.Types.{Account, Home, Position, Visit}
 use Rattle.mb_channel.specs.ChannelTheorem.{Spot}
 use Rattle.mb_channel.specs.Homes.{AllMade, Falls, Made, came_back, made_by, made_in}
 use Rattle.mb_channel.specs.Stays.{Stay, log_of, moved_by}
-use Rattle.mb_channel.specs.Lives.{count_sent, placed, spots_in, start}
+use Rattle.mb_channel.specs.Lives.{count_sent, placed, start}
 use Rattle.mb_channel.proofs.Accounts.{accounts, made_at, pos, stay, stays_of}
 
 module _ {T : Type 0} where
+  -- what the accounts of the visits list, by its places, the oldest first
+  abbrev pub spots_in : (Account T → List (Position T)) → List (Home T) → List (Visit T) → List (Spot T)
+  spots_in f hs [] = []
+  spots_in f hs (v ∷ vs) = spots_in f hs vs ++ map (placed (start hs v.segment)) (f v.account)
+
   -- the visit to segment k, if there is one
   abbrev pub at_visit : (Account T → List (Position T)) → ℕ → List (Visit T) → List (Position T)
   at_visit f k [] = []
@@ -141,7 +146,7 @@ module _ {T : Type 0} where
       on : LogsHere f g n k h ms → m.visit.segment ≡ k → (ns : List ℕ) → Match h ns (accounts (m ∷ made_at k ms))
           → log_of f n (stays_of ns (m ∷ made_at k ms)) ≡ map pos (at_visit g k (made_by n (m ∷ ms)))
       on rec e [] it = absurd it
-      on rec e (i ∷ is) it = one (nat_eq m.by n) (rec is it.2)
+      on rec e (i ∷ is) it = one (nat_eq m.by n) (rec is it.3)
         where
           one : (b : Bool) → log_of f n (stays_of is (made_at k ms)) ≡ map pos (at_visit g k (made_by n ms))
               → (if b then f (stay i m) else log_of f n (stays_of is (made_at k ms)))

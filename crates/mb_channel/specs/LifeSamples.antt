@@ -32,20 +32,20 @@ TellsOf ends back = (t : Told ℕ) × (t.history ≡ by_passes) × (t.stays ≡ 
 abbrev pub position : ℕ → ℕ → Position ℕ
 position p x = record { at = p; value = x }
 
-abbrev pub account : List (Position ℕ) → List (Position ℕ) → Account ℕ
-account sent got = record nothing_done { sent = sent; got = got }
-
 abbrev pub two_sent : Account ℕ
-two_sent = account (position 0 10 ∷ position 1 11 ∷ []) []
+two_sent = record nothing_done { sent = position 0 10 ∷ position 1 11 ∷ []; sent_knew = 0 ∷ 1 ∷ [] }
+
+abbrev pub one_sent : Account ℕ
+one_sent = record nothing_done { sent = position 0 12 ∷ []; sent_knew = 0 ∷ [] }
 
 abbrev pub one_got : Account ℕ
-one_got = account [] (position 0 10 ∷ [])
+one_got = record nothing_done { got = position 0 10 ∷ []; got_knew = 0 ∷ [] }
 
 abbrev pub visit : ℕ → Account ℕ → Visit ℕ
 visit k a = record { segment = k; account = a }
 
 abbrev pub last_end : Knows ℕ
 last_end = record first_view {
-  visits = visit 1 (account (position 0 12 ∷ []) []) ∷ visit 0 two_sent ∷ [];
+  visits = visit 1 one_sent ∷ visit 0 two_sent ∷ [];
   ended = record { number = 1; visits = visit 0 one_got ∷ [] } ∷ [];
 }

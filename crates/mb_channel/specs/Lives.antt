@@ -1,5 +1,5 @@
 -- The whole life of a channel, read off what its last end and its segments tell in the end.
-use Rattle.std.specs.Prelude.{ℕ, zero, suc, ◌≡◌, ◌<◌, ◌≤◌, ◌+◌, ◌++◌, List, [], ◌∷◌, length, map, flat_map, nat_eq, if◌then◌else◌}
+use Rattle.std.specs.Prelude.{ℕ, zero, suc, ◌≡◌, ◌<◌, ◌≤◌, ◌+◌, ◌++◌, List, [], ◌∷◌, length, flat_map, nat_eq, if◌then◌else◌}
 use Rattle.mb_segment.specs.Whole.{IsWhole as IsToldWhole}
 use Rattle.mb_channel.specs.Types.{Account, Home, Knows, Past, Position, Visit}
 use Rattle.mb_channel.specs.ChannelTheorem.{Call, End, Spot, WholeLife}
@@ -47,20 +47,23 @@ past_visits n (p ∷ ps) = if nat_eq p.number n then p.visits else past_visits n
 abbrev pub visits_of : {T : Type 0} → ℕ → Knows T → List (Visit T)
 visits_of n v = if nat_eq v.number n then v.visits else past_visits n v.ended
 
+-- the calls at these positions, each by a pass that knew of so many positions
+abbrev pub calls_at : {T : Type 0} → ℕ → List (Position T) → List ℕ → List (Call T)
+calls_at p [] ks = []
+calls_at p (s ∷ ss) [] = []
+calls_at p (s ∷ ss) (k ∷ ks) = record { spot = placed p s; knew = p + k } ∷ calls_at p ss ks
+
 -- what the accounts of the visits list, by its places, the oldest first
-abbrev pub spots_in : {T : Type 0} → (Account T → List (Position T)) → List (Home T) → List (Visit T) → List (Spot T)
-spots_in f hs [] = []
-spots_in f hs (v ∷ vs) = spots_in f hs vs ++ map (placed (start hs v.segment)) (f v.account)
+abbrev pub calls_in : {T : Type 0} → (Account T → List (Position T)) → (Account T → List ℕ) → List (Home T)
+    → List (Visit T) → List (Call T)
+calls_in f g hs [] = []
+calls_in f g hs (v ∷ vs) = calls_in f g hs vs ++ calls_at (start hs v.segment) (f v.account) (g v.account)
 
-abbrev pub calls : {T : Type 0} → (ℕ → ℕ) → List (Spot T) → List (Call T)
-calls knew = map (λ s. record { spot = s; knew = knew s.at })
-
--- what end n did. Its visits do not say what it knew: the sender of place p had learned of sends below `sender p`, and
--- its receiver of takes below `receiver p`
-abbrev pub end_in : {T : Type 0} → (ℕ → ℕ) → (ℕ → ℕ) → Knows T → List (Home T) → ℕ → End T
-end_in sender receiver v hs n = record {
-  sends = calls sender (spots_in (λ a. a.sent) hs (visits_of n v));
-  takes = calls receiver (spots_in (λ a. a.got) hs (visits_of n v));
+-- what end n did
+abbrev pub end_in : {T : Type 0} → Knows T → List (Home T) → ℕ → End T
+end_in v hs n = record {
+  sends = calls_in (λ a. a.sent) (λ a. a.sent_knew) hs (visits_of n v);
+  takes = calls_in (λ a. a.got) (λ a. a.got_knew) hs (visits_of n v);
 }
 
 -- what the segments tell of the ends' passes is a whole life of these ends

@@ -1,5 +1,5 @@
 //! The laws of a channel. The functions compute nothing: their contracts are the laws.
-ghost use Rattle.std.specs.Prelude.{ℕ, ◌≤◌, List};
+ghost use Rattle.std.specs.Prelude.{ℕ, List};
 ghost use Rattle.mb_channel.specs.ChannelTheorem.{EachMoment, End, History, Moment, Segment, WholeLife, life};
 ghost use Rattle.mb_channel.specs.Stays.{AreStays, Told, life_of};
 ghost use Rattle.mb_channel.specs.Types.{Home, Knows};
@@ -29,11 +29,9 @@ pub fn passes_make_ends<T>()
 {}
 
 /// Of a whole life: let the list end, and each of its segments. What the ends did is then read off their visits, what is
-/// given back is what the segments had left, and both are of one life. What an end knew is no part of its visits: any
-/// numbers `s` for sends and `r` for takes will do that are no more than the place.
+/// given back is what the segments had left, and both are of one life.
 pub fn lists_make_lives<T: Drop>()
     ensures life { (v : Knows T) (hs : List (Home T)) (ls : List (List T))
         → IsWhole v hs → HaveEnded hs ls → DoneInTurn hs
-        → (s r : ℕ → ℕ) → ((p : ℕ) → (s p ≤ p) × (r p ≤ p))
-        → HaveLived (end_in s r v hs) (all_left ls) }
+        → HaveLived (end_in v hs) (all_left ls) }
 {}

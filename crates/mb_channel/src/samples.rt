@@ -89,10 +89,10 @@ pub fn sample_stays()
 /// segment that did not end; and one where no value can come, behind one where some can.
 pub fn sample_visits()
     ensures sends { (h g : Home ℕ) → came_back h ≡ one_got ∷ two_sent ∷ []
-        → end_in (λ _. 0) (λ _. 0) last_end (h ∷ g ∷ []) 0
-        ≡ sender (call 0 10 0 ∷ call 1 11 0 ∷ call 2 12 0 ∷ []) }
+        → end_in last_end (h ∷ g ∷ []) 0
+        ≡ sender (call 0 10 0 ∷ call 1 11 1 ∷ call 2 12 2 ∷ []) }
     ensures takes { (h g : Home ℕ) → came_back h ≡ one_got ∷ two_sent ∷ []
-        → end_in (λ _. 0) (λ _. 0) last_end (h ∷ g ∷ []) 1 ≡ receiver (call 0 10 0 ∷ []) }
+        → end_in last_end (h ∷ g ∷ []) 1 ≡ receiver (call 0 10 0 ∷ []) }
     ensures ended { (h : Home ℕ) → came_back h ≡ [] → HaveEnded (h ∷ []) ([] ∷ []) }
     ensures done { (h : Home ℕ) → IsDone h → HaveEnded (h ∷ []) ((11 ∷ []) ∷ []) → ⊥ }
     ensures unsent { (h : Home ℕ) → came_back h ≡ [] → HaveEnded (h ∷ []) ((11 ∷ []) ∷ []) → ⊥ }

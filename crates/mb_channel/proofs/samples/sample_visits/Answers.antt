@@ -1,4 +1,4 @@
-use Rattle.std.proofs.Common.{ℕ, zero, suc, List, [], ◌∷◌, ◌++◌, ◌≡◌, length, sym, refl, ap, subst, arith}
+use Rattle.std.proofs.Common.{ℕ, zero, suc, None, is_some, true≢false, List, [], ◌∷◌, ◌++◌, ◌≡◌, length, sym, refl, ap, subst, arith}
 use mathlib.Core.Option.{some, some-injective, some-ne-none}
 use lib.ListN.{get_elem?}
 use Rattle.mb_segment.specs.History.{Claim, Entry, History, entries, values}
@@ -9,13 +9,15 @@ use Rattle.mb_channel.proofs.samples.sample_visits.Goals as goal
 
 nobody_did : IsToldWhole {T = ℕ} [] []
 nobody_did = record {
-  history = record { claims = []; rest = [] };
+  history = record { claims = []; rest = []; cutter = None };
   numbers = [];
   apart = tt;
   accounts_ = tt;
   senders = λ k e at. absurd (some-ne-none e (sym at));
   receivers = λ k c at. absurd (some-ne-none c (sym at));
+  closer = λ n e. absurd (true≢false (sym (ap is_some e)));
   left_is = refl;
+  heeds = tt;
 }
 
 -- where a value is left, there is an entry
