@@ -7,11 +7,12 @@ use lib.ListN.{get_elem?}
 use Rattle.atomic_table.specs.Table.{State, opening, Splits, Joins, Final, Seen}
 use Rattle.atomic_table.proofs.Lists.{at_set, set_else, set_here, at_longer}
 use Rattle.mb_channel.specs.Types.{Home, Homes, Knows, Past}
-use Rattle.mb_channel.specs.Homes.{AllPast, Falls, Fits, IsNone, IsSpent, IsWhole, Keeps, Made, PastFits}
-use Rattle.mb_channel.specs.Homes.{both, count, counts_less, first_view, made_by, made_count, newborn_view, past_count, past_of, rights, spent_view, times}
+use Rattle.mb_channel.specs.Homes.{AllPast, Falls, Fits, IsNone, IsSpent, IsWhole, Keeps, Made, PastFits, Stands}
+use Rattle.mb_channel.specs.Homes.{both, count, counts_less, first_view, is_in, made_by, made_count, newborn_view, out_of, past_count, past_of, rights, spent_view, times}
 use Rattle.mb_channel.proofs.Members.{lock_views}
 use Rattle.mb_channel.proofs.Moves.{ended_stay, has_part, not_spent}
-use Rattle.mb_channel.proofs.Views.{only, past_append, past_count_append, past_map, size_set, size_snoc, snoc_cases, there, total_set, total_snoc, two_below}
+use Rattle.mb_channel.proofs.Freed.{all_homes}
+use Rattle.mb_channel.proofs.Views.{in_none, only, past_append, past_count_append, past_map, size_set, size_snoc, snoc_cases, there, total_set, total_snoc, two_below}
 
 abbrev is_one : ℕ → ℕ → ℕ
 is_one n m = if nat_eq m n then 1 else 0
@@ -92,6 +93,8 @@ module _ {T : Type 0} where
             k.rights_ in omega arith);
         balance = λ g. (let a = total_set (count g) s.views id v w at in let b = total_snoc (count g) one new in
             let r = k.balance g in omega arith);
+        crowd = λ m h e. (let a = total_set (is_in m) s.views id v w at in let b = total_snoc (is_in m) one new in
+            let r = k.crowd m h e in omega arith);
         fresh = λ n long. (let m = size_snoc one new in k.fresh n (omega arith));
         fits = λ j u e. ⊎_elim
             (λ there_. fits_longer k.homes k.all one new j u (old j u there_))
@@ -118,8 +121,9 @@ module _ {T : Type 0} where
 
   -- end `other` is given back to end `id`
   pub joins : (id : ℕ) (v : Knows T) (other : ℕ) (w : Knows T) → v.live ≡ true → w.live ≡ true → w.holds ≡ false
+      → w.inside ≡ false
       → Joins Keeps id v other w (both v w) spent_view
-  joins id v other w live live' lets s k at apart at2 =
+  joins id v other w live live' lets out s k at apart at2 =
       let one : List (Knows T) = slice_set s.views id (both v w) in
       let two : List (Knows T) = slice_set one other spent_view in
       let was : get_elem? s.views other ≡ some w = sym (set_else s.views id other (both v w) apart) ∙ at2 in
@@ -173,6 +177,11 @@ module _ {T : Type 0} where
             (count m) one other w spent_view at2 in
             let e = past_count_append m v.ended (past_of w ∷ w.ended) in let r = k.balance m in omega arith
             );
+        crowd = λ m h e. (
+            let a = total_set (is_in m) s.views id v (both v w) at in
+            let b = total_set (is_in m) one other w spent_view at2 in
+            let c = in_none w m out in let r = k.crowd m h e in omega arith
+            );
         fresh = λ n long. (let l = size_set s.views id (both v w) in let l' = size_set one other spent_view
             in k.fresh n (omega arith));
         fits = λ j u e. ⊎_elim
@@ -181,7 +190,7 @@ module _ {T : Type 0} where
               falls = tt;
               near = inl refl;
               inside = λ l. absurd (true≢false (sym l));
-              takes = λ l. absurd (true≢false (sym l));
+              takes = λ _. inl refl;
               newborn = λ _. (refl, refl, refl, λ p. absurd (omega arith));
               idle = λ _. (refl, refl);
               ended = tt;
@@ -220,22 +229,29 @@ module _ {T : Type 0} where
   first_is zero v at = sym (some-injective first_view v at)
   first_is (suc id) v at = absurd (some-ne-none v (sym at))
 
-  pub opens : (l : Homes T) → l.list.items ≡ [] → Keeps (opening (0 ∷ 1 ∷ []) (l ∷ []) first_view)
-  opens l is = record {
+  pub opens : (l : Homes T) → l.list.items ≡ [] → l.first ≡ 0 → Keeps (opening (0 ∷ 1 ∷ []) (l ∷ []) first_view)
+  opens l is none_freed = record {
     homes = [];
     all = [];
     ends = 1;
-    lock = inl (l, refl, refl, is, λ id v at. ap (λ (z : Knows T). z.holds) (first_is id v at));
+    lock = inl (
+      l,
+      refl,
+      refl,
+      record { gone = []; all = sym is; number = sym none_freed; freed = tt },
+      λ id v at. ap (λ (z : Knows T). z.holds) (first_is id v at),
+    );
     agrees = record { here = λ k h at. absurd (some-ne-none h (sym at)); none_behind = λ k _. refl; turn = tt };
     rights_ = refl;
     balance = λ f. omega arith;
+    crowd = λ m h e. absurd (some-ne-none h (sym e));
     fresh = λ n long. refl;
     fits = λ id v at. subst (λ (z : Knows T). Fits [] [] (first_view ∷ []) id z) (sym (first_is id v at)) record {
       named = λ l. absurd (true≢false (sym l));
       falls = tt;
       near = inl refl;
       inside = λ l. absurd (true≢false (sym l));
-      takes = λ l. absurd (true≢false (sym l));
+      takes = λ _. inl refl;
       newborn = λ _. (refl, refl, refl, λ _. refl);
       idle = λ z. absurd (omega arith);
       ended = tt;
@@ -289,6 +305,18 @@ module _ {T : Type 0} where
             let d = no_past m v.ended none_ in
             omega arith
             );
+        empty = λ out. all_homes k.homes (λ h. out_of h ≡ 0) (λ m h e. (
+            let a = only (is_in m) s.views id v at (λ j u ne at'. (
+            let t = two_below rights s.views j id u v ne at' at in
+            let r = k.rights_ in
+            let x = k.fits j u at' in
+            let none_left : u.rights ≡ 0 = omega arith in
+            in_none u m (x.newborn (x.idle none_left).0).2
+            )) in
+            let b = k.crowd m h e in
+            let c = in_none v m out in
+            omega arith
+            ));
       }
 
   -- what the last end knows once the channel is over
@@ -296,7 +324,7 @@ module _ {T : Type 0} where
       → v.live ≡ true
       → (lock ends : ℕ) (l : Homes T) → get_elem? ws 0 ≡ some lock → lock ≡ 0 → get_elem? ws 1 ≡ some ends
       → ends ≡ v.rights → get_elem? xs 0 ≡ some l
-      → IsWhole v l.list.items
+      → (hs : List (Home T)) × Stands hs l × IsWhole v hs
   closes id v ws xs fin live lock ends l at0 zero_ at1 every at =
       let s = fin.0 in let k = fin.1.0 in
       ⊎_elim
@@ -306,8 +334,7 @@ module _ {T : Type 0} where
       let word : some ends ≡ some k.ends = sym at1 ∙ (ap (λ x. get_elem? x 1) (sym fin.2) ∙ ap
       (λ x. get_elem? x 1) free.1) in
       let n : ends ≡ k.ends = some-injective ends k.ends word in
-      subst (λ hs. IsWhole v hs) (sym (ap (λ (x : Homes T). x.list.items) same ∙ free.3)) (knows s k id v fin.1.1 live
-      (sym every ∙ n)))
+      (k.homes, subst (λ x. Stands k.homes x) (sym same) free.3, knows s k id v fin.1.1 live (sym every ∙ n)))
       (λ held.
       let e : some lock ≡ some 1 = sym at0 ∙ (ap (λ x. get_elem? x 0) (sym fin.2) ∙ ap (λ x. get_elem? x 0) held.1) in
       let i : lock ≡ 1 = some-injective lock 1 e in

@@ -1,27 +1,27 @@
 -- What the calls on the list's lock stand on.
-use Rattle.std.proofs.Common.{ℕ, suc, true, false, List, [], length, sym, refl, ap, subst, inl, inr, ⊎_elim, arith}
-use Rattle.std.proofs.Common.{◌≡◌, ◌≢◌, ◌+◌, ◌<◌, ◌≤◌, ◌⊎◌, ◌∷◌, ◌++◌, ◌∙◌}
-use Rattle.std.specs.Prelude.{IfOk, OnErr, Result, Ok, Err, Option, Some, get_or}
-use mathlib.Core.Option.{some, none, some-injective}
+use Rattle.std.proofs.Common.{ℕ, Bool, true, false, List, [], length, sym, refl, ap, subst, inl, inr, ⊎_elim, arith}
+use Rattle.std.proofs.Common.{◌≡◌, ◌+◌, ◌<◌, ◌≤◌, ◌⊎◌, ◌∷◌, ◌++◌, ◌∙◌}
+use Rattle.std.specs.Prelude.{IfSome, None, Option, Some, get_or, slice_set}
+use Rattle.mb_segment.specs.Seats.{view_in as pass_view}
+use Rattle.mb_segment.specs.Vocabulary.{IsFree as IsCalmPass, blank}
+use mathlib.Core.Option.{some, some-injective}
 use lib.ListN.{get_elem?}
-use Rattle.mb_channel.specs.Types.{Account, Arc, Global, Home, Homes, Knows, Pass, Segment, View, arc_value}
-use Rattle.atomic_table.specs.Table.{step, Allows, rest}
-use Rattle.atomic_table.proofs.Lists.{at_longer, set_here}
-use Rattle.mb_channel.specs.Homes.{Agrees, At, Changes, Grows, HasIssued, HasTakenBack, IsDone, IsIn, IsNext}
-use Rattle.mb_channel.specs.Homes.{IsPassOf, Keeps, Longer, Made, Sat, came_back, comes, leaves}
-use Rattle.mb_channel.specs.Homes.{left_segment, unlocked}
-use Rattle.mb_channel.proofs.Moves.{grows_same, next_grows}
+use Rattle.mb_channel.specs.Types.{Arc, Global, Home, Homes, Knows, Pass, Segment, View, arc_value}
+use Rattle.atomic_table.specs.Table.{State, rest}
+use Rattle.atomic_table.proofs.Lists.{at_longer}
+use Rattle.mb_channel.specs.Homes.{Agrees, At, Changes, Grows, HasIssued, HasTakenBack, IsBusy, IsIn, IsNew, IsNext}
+use Rattle.mb_channel.specs.Homes.{IsPassOf, Keeps, Longer, Made, MayGive, Sat, Stands, came_back, came_to, is_in, left_segment, out_of, total, unlocked}
+use Rattle.mb_channel.proofs.Moves.{busy_same, ended_stay, grows_same, in_grows, near_grows, next_grows, unlocks}
 use Rattle.mb_channel.proofs.Stays.{unlocks_came, unlocks_left}
-use Rattle.mb_channel.proofs.Views.{made_map, size_snoc, snoc_cases, there}
+use Rattle.mb_channel.proofs.Views.{all_zero, in_else, in_none, made_map, size_snoc, snoc_cases, there}
 
 some_is : {A : Type 0} (a b : A) → Some a ≡ Some b → a ≡ b
 some_is {A = A} a b e = ap (λ (o : Option A). Rattle.std.specs.Option.unwrap_or o a) e
 
 module _ {T : Type 0} where
   -- the list that is lent is the one held, and nothing else is held
-  pub was : (l : List (ℕ × Homes T)) (y now : Homes T) → l ≡ (0, y) ∷ [] → l ≡ (0, now) ∷ rest l
-      → now.list.items ≡ y.list.items
-  was l y now a b = ap (λ (k : List (ℕ × Homes T)). (get_or k 0 (0, y)).1.list.items) (sym b ∙ a)
+  pub was : (l : List (ℕ × Homes T)) (y now : Homes T) → l ≡ (0, y) ∷ [] → l ≡ (0, now) ∷ rest l → now ≡ y
+  was l y now a b = ap (λ (k : List (ℕ × Homes T)). (get_or k 0 (0, y)).1) (sym b ∙ a)
 
   pub only_one : (l : List (ℕ × Homes T)) (y z : Homes T) → l ≡ (0, y) ∷ [] → (0, z) ∷ rest l ≡ (0, z) ∷ []
   only_one l y z a = ap (λ (k : List (ℕ × Homes T)). (0, z) ∷ rest k) a
@@ -29,11 +29,11 @@ module _ {T : Type 0} where
   grows_snoc : (hs : List (Home T)) (h : Home T) → Grows hs (hs ++ h ∷ [])
   grows_snoc hs h k u at = (u, at_longer hs (h ∷ []) k u at, (refl, λ d. d))
 
-  agrees_snoc : (hs : List (Home T)) (h : Home T) (all : List (Made T)) → came_back h ≡ [] → Agrees hs all → Agrees
+  agrees_snoc : (hs : List (Home T)) (h : Home T) (all : List (Made T)) → IsNew h → Agrees hs all → Agrees
       (hs ++ h ∷ []) all
-  agrees_snoc hs h all none_back a = record {
+  agrees_snoc hs h all new a = record {
     here = λ k u e. ⊎_elim (λ at. a.here k u at)
-        (λ (t : (k ≡ length hs) × (h ≡ u)). ap came_back (sym t.1) ∙ none_back ∙ sym (a.none_behind k (let q = t.0
+        (λ (t : (k ≡ length hs) × (h ≡ u)). ap came_back (sym t.1) ∙ new.0 ∙ sym (a.none_behind k (let q = t.0
         in omega arith))) (snoc_cases hs h u k e);
     none_behind = λ k long. (let l = size_snoc hs h in a.none_behind k (omega arith));
     turn = made_map (λ m. (m.visit.account.got ≡ []) ⊎ IsNext hs m.visit.segment) (λ m. (m.visit.account.got ≡ [])
@@ -50,71 +50,96 @@ module _ {T : Type 0} where
   agrees_longer hs gs l all a = ⊎_elim (λ e. subst (λ x. Agrees x all) (sym e) a)
       (λ m. subst (λ x. Agrees x all) (sym m.2) (agrees_snoc hs m.0 all m.1 a)) l
 
+  -- nobody has a pass of a segment that is not there
+  none_in : (s : State (Homes T) (Knows T)) (k : Keeps s) (m : ℕ) → length k.homes ≤ m → total (is_in m) s.views ≡ 0
+  none_in s k m long = all_zero (is_in m) s.views (λ j u at. go j u at u.inside refl)
+    where
+      go : (j : ℕ) (u : Knows T) → get_elem? s.views j ≡ some u → (b : Bool) → u.inside ≡ b → is_in m u ≡ 0
+      go j u at true is = let i = (k.fits j u at).inside is in let lt = there k.homes u.at i.0 i.1 in
+          in_else u m (λ q. omega arith)
+      go j u at false is = in_none u m is
+
+  busy_longer : (s : State (Homes T) (Knows T)) (k : Keeps s) (gs : List (Home T)) → Longer k.homes gs → (p m : ℕ)
+      (h : Home T) → get_elem? gs m ≡ some h → out_of h + p ≡ total (is_in m) s.views + p
+  busy_longer s k gs l p m h e = ⊎_elim
+      (λ q. busy_same s k m p h (ap (λ x. get_elem? x m) (sym q) ∙ e))
+      (λ q. ⊎_elim (λ at. busy_same s k m p h at)
+      (λ (t : (m ≡ length k.homes) × (q.0 ≡ h)). (
+      let a : out_of h ≡ 0 = ap out_of (sym t.1) ∙ q.1.1 in
+      let b = none_in s k m (let i = t.0 in omega arith) in omega arith
+      ))
+      (snoc_cases k.homes q.0 h m (ap (λ x. get_elem? x m) (sym q.2) ∙ e))) l
+
+  -- nothing was done, or a segment was added
+  pub unlocks_same : (slots id : ℕ) (me : Sat T) (y : Homes T) (hs : List (Home T)) → Stands hs y → me.1 ≡ (0, y) ∷ []
+      → me.0.live ≡ true → me.0.holds ≡ true → Longer me.0.before hs → MayGive (λ v. v) slots id me
+  unlocks_same slots id me y hs stands carried live holds longer = unlocks
+      (λ v. v) slots id me y hs stands carried live holds refl refl
+      (λ s k at part before.
+      let f = k.fits id me.0 at in
+      let l : Longer k.homes hs = subst (λ x. Longer x hs) before longer in
+      let g = grows_longer k.homes hs l in (
+        k.all,
+        g,
+        agrees_longer k.homes hs l k.all k.agrees,
+        (λ n _. refl),
+        (λ g. omega arith),
+        (λ m h e. busy_longer s k hs l (is_in m me.0) m h e),
+        record {
+          named = f.named;
+          falls = f.falls;
+          near = near_grows k.homes hs g me.0.at f.near;
+          inside = λ is. in_grows k.homes hs g me.0 (f.inside is);
+          takes = λ is. next_grows k.homes hs g me.0.at (f.takes is);
+          newborn = f.newborn;
+          idle = λ z. absurd (omega arith);
+          ended = ended_stay s k id me.0 (unlocked me.0) at part k.all (λ n _. refl);
+        },
+      ))
+
   -- a pass of the segment where the end is belongs to the hub there
-  pub pass_here : (hs : List (Home T)) (v : Knows T) (p : Pass T) → IsIn hs v → IsPassOf v.place p
-      → At hs v.at (λ h. p.seat.table_id ≡ h.hub.seat.table_id)
-  pass_here hs v p is of = let same = some_is of.0 is.0.segment (sym of.1 ∙ is.2) in (
+  pub pass_here : (hs : List (Home T)) (v : Knows T) (p : Pass T) → IsIn hs v → IsBusy hs v.at → IsPassOf v.place p
+      → At hs v.at (λ h. (p.seat.table_id ≡ h.hub.seat.table_id) × (0 < out_of h))
+  pass_here hs v p is busy of = let same = some_is of.0 is.2.0 (sym of.1 ∙ is.2.1) in (
     is.0,
     is.1,
-    of.2 ∙ ap (λ (s : Arc (Segment T Global) Global). (arc_value s).table.shared.table_id) same
-        ∙ sym is.0.same,
+    (
+      of.2 ∙ ap (λ (s : Arc (Segment T Global) Global). (arc_value s).table.shared.table_id) same
+          ∙ ap (λ (s : Segment T Global). s.table.shared.table_id) is.2.2 ∙ sym is.0.same,
+      subst (λ h. 0 < out_of h) (some-injective busy.0 is.0 (sym busy.1 ∙ is.1)) busy.2,
+    ),
   )
 
-  pub leaves_list : (x : View T) (slots id : ℕ) (me : Sat T) (y : Homes T) → me.1 ≡ (0, y) ∷ [] → me.0.live ≡ true
-      → me.0.holds ≡ true
-      → Changes me.0.before y.list.items me.0.at (λ h g. HasTakenBack h g x) → (me.0.takes ≡ false → x.account.got ≡ [])
-      → Allows Keeps slots id me 0 (λ _. 0) (λ _. leaves (step slots 0 0 0 none) me 0)
-  leaves_list x slots id me y carried live holds c poor s k len at small =
-      let did = c.4 in
-      let r = unlocks_left x.account slots id me y carried live holds c.0 c.1 c.2 c.3
-      did.0 did.2 did.1 poor s k len at small in
-      let here : get_elem? y.list.items me.0.at ≡ some c.1 = ap (λ l. get_elem? l me.0.at) c.3
-      ∙ set_here me.0.before me.0.at c.1 (there me.0.before me.0.at c.0 c.2) in
-      (r.0, r.1, r.2, r.3, (x.account, y, carried, (c.1, here, ((came_back c.0, did.1), r.4.0)), r.4.1))
+  pub leaves_list : (x : View T) (done : Bool) (slots id : ℕ) (me : Sat T) (y : Homes T) (hs : List (Home T))
+      → Stands hs y → me.1 ≡ (0, y) ∷ [] → me.0.live ≡ true → me.0.holds ≡ true → me.0.inside ≡ true
+      → Changes me.0.before hs me.0.at (λ h g. HasTakenBack h g x × (done ≡ g.done))
+      → (me.0.takes ≡ false → x.account.got ≡ []) → MayGive (left_segment x.account done) slots id me
+  leaves_list x done slots id me y hs stands carried live holds inside c poor = let did = c.4.0 in
+      unlocks_left x.account done slots id me y hs stands carried live holds inside c.0 c.1 c.2 c.3
+      did.0 did.2 did.1 did.4 (λ q. sym c.1.tells ∙ sym c.4.1 ∙ q) poor
 
-  pub comes_list : (b : Rattle.std.proofs.Common.Bool) (slots id : ℕ) (me : Sat T) (y : Homes T) → me.1 ≡ (0, y) ∷ []
-      → me.0.live ≡ true → me.0.holds ≡ true
-      → Changes me.0.before y.list.items me.0.at HasIssued → (b ≡ true → me.0.takes ≡ true)
-      → Allows Keeps slots id me 0 (λ _. 0) (λ _. comes b (step slots 0 0 0 none) me 0)
-  comes_list b slots id me y carried live holds c may s k len at small =
-      let did = c.4 in
-      let r = unlocks_came b c.1 slots id me y carried live holds c.0 c.2 c.3 did.0 did.2 did.1 may s k len at small in
-      let here : get_elem? y.list.items me.0.at ≡ some c.1 = ap (λ l. get_elem? l me.0.at) c.3
-      ∙ set_here me.0.before me.0.at c.1 (there me.0.before me.0.at c.0 c.2) in
-      (r.0, r.1, r.2, r.3, (c.1, y, carried, here, r.4.0, r.4.1))
+  -- the segment is done if the pass saw that
+  pub done_if : (x : View T) (done : Bool) (hs gs : List (Home T)) (k : ℕ)
+      → Changes hs gs k (λ h g. HasTakenBack h g x × (done ≡ g.done)) → x.over ≡ true → done ≡ true
+  done_if x done hs gs k c o = c.4.1 ∙ c.1.tells ∙ c.4.0.3 o
 
-  -- what the end did in the segment that it left is what its pass did
-  pub left_what : (x : View T) (me n : Sat T) (slots : ℕ) (y : Homes T) → me.1 ≡ (0, y) ∷ []
-      → Changes me.0.before y.list.items me.0.at (λ h g. HasTakenBack h g x) → leaves (step slots 0 0 0 none) me 0 n
-      → (h : Home T) × (n.1 ≡ []) × (n.0 ≡ left_segment x.account h (unlocked me.0)) × (x.over ≡ true → IsDone h)
-  left_what x me n slots y carried c tells =
-      let did = c.4 in
-      let items : tells.1.list.items ≡ y.list.items = ap (λ (k : List (ℕ × Homes T)). (get_or k 0 (
-        0,
-        y,
-      )).1.list.items) (sym tells.2 ∙ carried) in
-      let here : get_elem? y.list.items me.0.at ≡ some c.1 = ap (λ l. get_elem? l me.0.at) c.3
-      ∙ set_here me.0.before me.0.at c.1 (there me.0.before me.0.at c.0 c.2) in
-      let same : tells.3.0 ≡ c.1 = some-injective tells.3.0 c.1 (sym tells.3.1 ∙ ap (λ l. get_elem? l me.0.at) items
-      ∙ here) in
-      let account : tells.0 ≡ x.account = ap (λ (l : List (Account T)). get_or l 0 x.account) (sym tells.3.2.0.1
-      ∙ ap came_back same ∙ did.1) in (
-        tells.3.0,
-        tells.4,
-        tells.3.2.1 ∙ ap (λ a. left_segment a tells.3.0 (unlocked me.0)) account,
-        λ o. subst
-            (λ h. IsDone h) (sym same) (did.3 o),
-      )
+  pub comes_list : (b : Bool) (a : Arc (Segment T Global) Global) (p : Pass T) (slots id : ℕ) (me : Sat T) (y : Homes T)
+      (hs : List (Home T)) → Stands hs y → me.1 ≡ (0, y) ∷ [] → me.0.live ≡ true → me.0.holds ≡ true
+      → me.0.inside ≡ false → Changes me.0.before hs me.0.at (λ h g. HasIssued h g a p)
+      → (b ≡ true → me.0.takes ≡ true) → MayGive (came_to a b) slots id me
+  comes_list b a p slots id me y hs stands carried live holds outside c may =
+      unlocks_came b a p c.1 slots id me y hs stands carried live holds outside c.0 c.2 c.3 c.4 may
 
-  -- the pass that was issued is of the segment to which the end came
-  pub came_where : (hs : List (Home T)) (n k : ℕ) (h : Home T) (p : Pass T) → n ≡ k → get_elem? hs n ≡ some h
-      → At hs k (λ g. p.seat.table_id ≡ g.hub.seat.table_id) → p.seat.table_id ≡
-      (arc_value h.segment).table.shared.table_id
-  came_where hs n k h p e at is =
-      let same : is.0 ≡ h = some-injective is.0 h (sym is.1 ∙ ap (get_elem? hs) (sym e) ∙ at) in
-      is.2 ∙ ap (λ (g : Home T). g.hub.seat.table_id) same ∙ h.same
+  -- the pass that was issued is of the segment of which the end got a share
+  pub came_where : (a : Arc (Segment T Global) Global) (p : Pass T) (h g : Home T) → HasIssued h g a p
+      → p.seat.table_id ≡ (arc_value a).table.shared.table_id
+  came_where a p h g did = did.5 ∙ g.same ∙ ap (λ (s : Segment T Global). s.table.shared.table_id) (sym did.4)
 
-  pub longer_of : {E : Type 0} (r : Result (Unit {0}) E) (hs gs : List (Home T))
-      → IfOk r (λ _. (h : Home T) × (came_back h ≡ []) × (gs ≡ hs ++ h ∷ [])) → OnErr r (gs ≡ hs) → Longer hs gs
-  longer_of (Ok u) hs gs more same = inr more
-  longer_of (Err e) hs gs more same = inl same
+  -- the segment whose hub issued a pass
+  pub issued_of : (r : Option (Arc (Segment T Global) Global × Pass T)) (hs : List (Home T)) (k : ℕ) (h g : Home T)
+      → get_elem? hs k ≡ some h → IfSome r (λ r. HasIssued h g r.0 r.1)
+      → IfSome r (λ r. (pass_view r.1 ≡ blank) × IsCalmPass r.1)
+      → IfSome r (λ r. Changes hs (slice_set hs k g) k (λ h g. HasIssued h g r.0 r.1) × (pass_view r.1 ≡ blank)
+      × IsCalmPass r.1)
+  issued_of (Some r) hs k h g at did new = ((h, g, at, refl, did), new.0, new.1)
+  issued_of None hs k h g at did new = tt

@@ -5,7 +5,7 @@ use native.Mathlib.Decide.{ℕ_discrete}
 use Rattle.std.proofs.lemmas.List.{length-map, length-append, map-append}
 use Rattle.mb_channel.specs.ChannelTheorem.{Claim, Entry, History, Spot, entries, left, spots_by, spots_to, taken}
 use Rattle.mb_channel.specs.Segments.{TakenInTurn, drawn, logs_by, logs_to}
-use Rattle.mb_channel.specs.Stays.{AllBy, AllTo, AreApart, DidSo, IsEnd, IsPass, Stay, Told, all_got_of, all_sent_of, by_ends, end_of, got_of, life_of, moved_by, named, named_claim, sent_of}
+use Rattle.mb_channel.specs.Stays.{AllBy, AllTo, AreApart, DidSo, IsEnd, IsPass, Stay, Told, by_ends, end_of, life_of, log_of, logs_of, moved_by, named, named_claim}
 
 abbrev is_it : Option ℕ → ℕ → Bool
 is_it None m = false
@@ -109,22 +109,24 @@ module _ {T : Type 0} where
       ∙ to_one (pass_of n ss) p c cs
 
   sent_here : (h : History T) (n : ℕ) (ss : List (Stay T)) → DidSo h ss
-      → sent_of n ss ≡ by_pass (pass_of n ss) 0 (entries h.claims ++ h.rest)
+      → log_of (λ s. s.sent) n ss ≡ by_pass (pass_of n ss) 0 (entries h.claims ++ h.rest)
   sent_here h n [] did = refl
   sent_here h n (s ∷ ss) did = go (nat_eq s.end n) (sent_here h n ss did.2)
     where
-      go : (b : Bool) → sent_of n ss ≡ by_pass (pass_of n ss) 0 (entries h.claims ++ h.rest)
-          → (if b then s.sent else sent_of n ss)
+      go : (b : Bool) → log_of (λ s. s.sent) n ss ≡ by_pass (pass_of n ss) 0 (entries h.claims ++ h.rest)
+          → (if b then s.sent else log_of (λ s. s.sent) n ss)
           ≡ by_pass (if b then Some s.pass else pass_of n ss) 0 (entries h.claims ++ h.rest)
       go true rec = did.0
       go false rec = rec
 
-  got_here : (h : History T) (n : ℕ) (ss : List (Stay T)) → DidSo h ss → got_of n ss ≡ to_pass (pass_of n ss) 0 h.claims
+  got_here : (h : History T) (n : ℕ) (ss : List (Stay T)) → DidSo h ss
+      → log_of (λ s. s.got) n ss ≡ to_pass (pass_of n ss) 0 h.claims
   got_here h n [] did = refl
   got_here h n (s ∷ ss) did = go (nat_eq s.end n) (got_here h n ss did.2)
     where
-      go : (b : Bool) → got_of n ss ≡ to_pass (pass_of n ss) 0 h.claims
-          → (if b then s.got else got_of n ss) ≡ to_pass (if b then Some s.pass else pass_of n ss) 0 h.claims
+      go : (b : Bool) → log_of (λ s. s.got) n ss ≡ to_pass (pass_of n ss) 0 h.claims
+          → (if b then s.got else log_of (λ s. s.got) n ss)
+          ≡ to_pass (if b then Some s.pass else pass_of n ss) 0 h.claims
       go true rec = did.1
       go false rec = rec
 
@@ -175,24 +177,25 @@ module _ {T : Type 0} where
   drawn_named t = ap length (all_named t) ∙ length-map (entries t.history.claims ++ t.history.rest) (named t.stays)
 
   sent_part : (n p : ℕ) (t : Told T)
-      → map (moved_by p) (sent_of n t.stays) ≡ spots_by n p (entries (by_ends t).claims ++ (by_ends t).rest)
+      → map (moved_by p) (log_of (λ s. s.sent) n t.stays)
+      ≡ spots_by n p (entries (by_ends t).claims ++ (by_ends t).rest)
   sent_part n p t = ap (map (moved_by p)) (sent_here t.history n t.stays t.did)
       ∙ by_placed (pass_of n t.stays) p (entries t.history.claims ++ t.history.rest)
       ∙ sym (by_named t.stays n p t.apart (entries t.history.claims ++ t.history.rest) t.senders)
       ∙ ap (spots_by n p) (sym (all_named t))
 
-  got_part : (n p : ℕ) (t : Told T) → map (moved_by p) (got_of n t.stays) ≡ spots_to n p (by_ends t).claims
+  got_part : (n p : ℕ) (t : Told T) → map (moved_by p) (log_of (λ s. s.got) n t.stays) ≡ spots_to n p (by_ends t).claims
   got_part n p t = ap (map (moved_by p)) (got_here t.history n t.stays t.did)
       ∙ to_placed (pass_of n t.stays) p t.history.claims
       ∙ sym (to_named t.stays n p t.apart t.history.claims t.receivers)
 
-  pub sent_so : (n p : ℕ) (ts : List (Told T)) → all_sent_of n p ts ≡ logs_by n p (life_of ts)
+  pub sent_so : (n p : ℕ) (ts : List (Told T)) → logs_of (λ s. s.sent) n p ts ≡ logs_by n p (life_of ts)
   sent_so n p [] = refl
   sent_so n p (t ∷ ts) = (λ i. sent_part n p t i ++ sent_so n (p + drawn t.history) ts i)
       ∙ ap (λ q. spots_by n p (entries (by_ends t).claims ++ (by_ends t).rest) ++ logs_by n (p + q) (life_of ts))
       (sym (drawn_named t))
 
-  pub got_so : (n p : ℕ) (ts : List (Told T)) → all_got_of n p ts ≡ logs_to n p (life_of ts)
+  pub got_so : (n p : ℕ) (ts : List (Told T)) → logs_of (λ s. s.got) n p ts ≡ logs_to n p (life_of ts)
   got_so n p [] = refl
   got_so n p (t ∷ ts) = (λ i. got_part n p t i ++ got_so n (p + drawn t.history) ts i)
       ∙ ap (λ q. spots_to n p (by_ends t).claims ++ logs_to n (p + q) (life_of ts)) (sym (drawn_named t))

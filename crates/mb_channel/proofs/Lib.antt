@@ -1,10 +1,16 @@
+mod Accounts
 mod Back
 mod Chairs
+mod Counts
 mod Ends
+mod Freed
+mod Lives
 mod Logs
 mod Members
 mod Moves
+mod Places
 mod Stays
 mod Theorems
 mod Turns
 mod Views
+mod Visited

@@ -10,8 +10,8 @@ use Rattle.atomic_table.proofs.Lists.{exchanged, set_again, at_set}
 use Rattle.mb_channel.specs.Types.{Home, Homes, Knows}
 use Rattle.mb_channel.specs.Homes.{IsFree, IsHeld, Keeps, Sat}
 use Rattle.mb_channel.specs.Homes.{counting, counts_more, gets_number}
-use Rattle.mb_channel.specs.Homes.{times}
-use Rattle.mb_channel.proofs.Moves.{ended_stay, grows_same, has_part, moved, stays_word}
+use Rattle.mb_channel.specs.Homes.{is_in, times}
+use Rattle.mb_channel.proofs.Moves.{busy_same, ended_stay, grows_same, has_part, moved, stays_word}
 use Rattle.mb_channel.proofs.Views.{not_true}
 
 module _ {T : Type 0} where
@@ -77,6 +77,7 @@ module _ {T : Type 0} where
             (moved s k id v w at part k.homes k.all k.ends (grows_same k.homes) k.agrees (λ n _. refl) refl
             (λ g. let x : times (g id) v.visits ≡ 0 = ap (times (g id)) b.0 in let y : times
             (g v.number) v.visits ≡ 0 = ap (times (g v.number)) b.0 in omega arith)
+            (λ m h e. busy_same s k m (is_in m v) h e)
             record {
               named = λ _. (refl, b.0 ∙ sym none_made);
               falls = f.falls;
@@ -124,7 +125,7 @@ module _ {T : Type 0} where
         keeps,
         tt,
         moved s k id v w at part k.homes k.all new (grows_same k.homes) k.agrees (λ n _. refl) (let x = word.0
-            in omega arith) (λ g. omega arith)
+            in omega arith) (λ g. omega arith) (λ m h e. busy_same s k m (is_in m v) h e)
             record {
               named = f.named;
               falls = f.falls;

@@ -8,10 +8,10 @@ use lib.ListN.{get_elem?}
 use prog.Atomic.{either}
 use Rattle.atomic_table.specs.Table.{State, Act, keeps, takes, gives, step, stepped, Allows, Valid, carried_after, homes_after, put_back, rest}
 use Rattle.atomic_table.proofs.Lists.{exchanged, set_again, at_set, set_else}
-use Rattle.mb_channel.specs.Types.{Home, Homes, Knows, Past}
-use Rattle.mb_channel.specs.Homes.{Agrees, AllPast, Finds, Fits, Grows, IsFree, IsHeld, IsIn, IsNear, IsNext, Keeps, Made, PastFits, Sat, IsSpent}
-use Rattle.mb_channel.specs.Homes.{count, gives_lock, locked, made_by, made_count, rights, takes_lock, unlocked}
-use Rattle.mb_channel.proofs.Views.{not_true, past_map, size_set, there, total_set}
+use Rattle.mb_channel.specs.Types.{Home, Homes, Knows, Past, arc_value}
+use Rattle.mb_channel.specs.Homes.{Agrees, AllPast, Fits, Grows, IsBusy, IsFree, IsHeld, IsIn, IsNear, IsNext, Keeps, Made, MayGive, PastFits, Sat, IsSpent, Stands}
+use Rattle.mb_channel.specs.Homes.{count, is_in, locked, made_by, made_count, out_of, rights, takes_lock, total, unlocked}
+use Rattle.mb_channel.proofs.Views.{below_total, in_here, not_true, past_map, size_set, there, total_set}
 
 module _ {T : Type 0} where
   abbrev pub Same : List (Made T) → List (Made T) → ℕ → Type 0
@@ -30,7 +30,7 @@ module _ {T : Type 0} where
 
   pub in_grows : (hs gs : List (Home T)) → Grows hs gs → (v : Knows T) → IsIn hs v → IsIn gs v
   in_grows hs gs grows v is = let g = grows v.at is.0 is.1 in
-      (g.0, g.1, is.2 ∙ ap (λ s. Rattle.std.specs.Prelude.Some s) (sym g.2.0))
+      (g.0, g.1, (is.2.0, is.2.1, is.2.2 ∙ ap arc_value (sym g.2.0)))
 
   -- who has rights is not spent
   pub not_spent : (views : List (Knows T)) (id : ℕ) (v : Knows T) → get_elem? views id ≡ some v → 0 < v.rights
@@ -55,12 +55,13 @@ module _ {T : Type 0} where
       → (hs : List (Home T)) (new : List (Made T)) (n : ℕ) → Grows k.homes hs → Agrees hs new → Same k.all new id
       → w.rights + k.ends ≡ v.rights + n
       → ((f : ℕ → ℕ) → count f w + made_count f k.all ≡ count f v + made_count f new)
+      → ((m : ℕ) (h : Home T) → get_elem? hs m ≡ some h → out_of h + is_in m v ≡ total (is_in m) s.views + is_in m w)
       → Fits hs new (slice_set s.views id w) id w
       → (words : List ℕ) (homes : List (maybe.Option (Homes T)))
       → (IsFree record { words = words; homes = homes; views = slice_set s.views id w } hs n
       ⊎ IsHeld record { words = words; homes = homes; views = slice_set s.views id w } hs n)
       → Keeps record { words = words; homes = homes; views = slice_set s.views id w }
-  moved s k id v w at part hs new n grows agrees same sum weight mine words homes lock = record {
+  moved s k id v w at part hs new n grows agrees same sum weight busy mine words homes lock = record {
     homes = hs;
     all = new;
     ends = n;
@@ -69,6 +70,7 @@ module _ {T : Type 0} where
     rights_ = (let t = total_set rights s.views id v w at in let r = k.rights_ in omega arith);
     balance = λ f. (let t = total_set (count f) s.views id v w at in let b = k.balance f in let d = weight f
         in omega arith);
+    crowd = λ m h e. (let t = total_set (is_in m) s.views id v w at in let c = busy m h e in omega arith);
     fresh = λ m long. (
         let l = size_set s.views id w in
         let i = there s.views id v at in
@@ -91,6 +93,20 @@ module _ {T : Type 0} where
         })
         (at_set s.views id j w u e);
   }
+
+  -- nothing was issued or taken back
+  pub busy_same : (s : State (Homes T) (Knows T)) (k : Keeps s) (m p : ℕ) (h : Home T) → get_elem? k.homes m ≡ some h
+      → out_of h + p ≡ total (is_in m) s.views + p
+  busy_same s k m p h e = ap (λ n. n + p) (k.crowd m h e)
+
+  busy_here : (s : State (Homes T) (Knows T)) (k : Keeps s) (id : ℕ) (v : Knows T) → get_elem? s.views id ≡ some v
+      → v.inside ≡ true → IsBusy k.homes v.at
+  busy_here s k id v at is =
+      let i = (k.fits id v at).inside is in
+      let c = k.crowd v.at i.0 i.1 in
+      let b = below_total (is_in v.at) s.views id v at in
+      let one = in_here v v.at is refl in
+      (i.0, i.1, omega arith)
 
   pub has_part : (hs : List (Home T)) (all : List (Made T)) (views : List (Knows T)) (id : ℕ) (v : Knows T)
       → Fits hs all views id v → v.live ≡ true → 0 < v.rights
@@ -133,12 +149,12 @@ module _ {T : Type 0} where
       (λ m. (w : Knows T) × (a : Act (Homes T)) × Valid s.homes me.1 a × Keeps (stepped s 0 m id me.1 w a)
       × takes_lock (step slots 0 0 1 none) me (slice_index s.words 0) (w, carried_after me.1 a))
       (λ e. ⊎_elim
-      (λ free. let l = free.0 in let w = locked l.list.items v in (
+      (λ free. let l = free.0 in let w = locked k.homes v in (
         w,
         takes 0 l,
         ap (λ x. get_elem? x 0) free.2,
         moved s k id v w at part k.homes k.all k.ends (grows_same k.homes) k.agrees (λ n _. refl) refl
-            (λ g. omega arith)
+            (λ g. omega arith) (λ m h e. busy_same s k m (is_in m v) h e)
             record {
               named = f.named;
               falls = f.falls;
@@ -156,14 +172,16 @@ module _ {T : Type 0} where
               ap (λ x. slice_set x 0 none) free.2,
               λ j u e. ⊎_elim (λ (t : (j ≡ id) × (w ≡ u)). λ held. (
                 t.0,
-                ap (λ (z : Knows T). z.before) (sym t.1)
-                    ∙ free.3,
+                ap (λ (z : Knows T). z.before) (sym t.1),
               ))
                   (λ (t : (j ≢ id) × (get_elem? s.views j ≡ some u)). λ held. absurd (true≢false (sym held
                   ∙ free.4 j u t.1)))
                   (at_set s.views id j w u e),
             )),
-        ((λ _. (l, refl, subst (λ x. Finds x v) (sym free.3) (f.near, f.inside, f.takes))), λ ne. absurd (ne e)),
+        (
+          (λ _. (l, k.homes, free.3, refl, (f.near, (λ is. (f.inside is, busy_here s k id v at is)), f.takes))),
+          λ ne. absurd (ne e),
+        ),
       ))
       (λ held. let is : slice_index s.words 0 ≡ 1 = ap (λ x. slice_index x 0) held.1 in absurd (omega arith))
       k.lock)
@@ -175,17 +193,20 @@ module _ {T : Type 0} where
         ((λ e. absurd (ne e)), λ _. refl),
       ))
 
-  -- giving the lock back with the list y. `go`: the visits afterwards, and that all fits
-  pub unlocks : (f : Knows T → Knows T) (slots id : ℕ) (me : Sat T) (y : Homes T) → me.1 ≡ (0, y) ∷ []
-      → me.0.live ≡ true → me.0.holds ≡ true
+  -- what an end does that gives the lock back. All segments are hs now, w is its view, and `new` are the visits
+  abbrev pub Lawful : (s : State (Homes T) (Knows T)) → Keeps s → ℕ → Knows T → List (Home T) → Knows T → Type 0
+  Lawful s k id v hs w = (new : List (Made T)) × Grows k.homes hs × Agrees hs new × Same k.all new id
+      × ((g : ℕ → ℕ) → count g w + made_count g k.all ≡ count g v + made_count g new)
+      × ((m : ℕ) (h : Home T) → get_elem? hs m ≡ some h → out_of h + is_in m v ≡ total (is_in m) s.views + is_in m w)
+      × Fits hs new (slice_set s.views id w) id w
+
+  pub unlocks : (f : Knows T → Knows T) (slots id : ℕ) (me : Sat T) (y : Homes T) (hs : List (Home T)) → Stands hs y
+      → me.1 ≡ (0, y) ∷ [] → me.0.live ≡ true → me.0.holds ≡ true
       → (f (unlocked me.0)).rights ≡ me.0.rights → (f (unlocked me.0)).holds ≡ false
       → ((s : State (Homes T) (Knows T)) (k : Keeps s) → get_elem? s.views id ≡ some me.0 → 0 < me.0.rights
-      → me.0.before ≡ k.homes
-      → (new : List (Made T)) × Grows k.homes y.list.items × Agrees y.list.items new × Same k.all new id
-      × ((g : ℕ → ℕ) → count g (f (unlocked me.0)) + made_count g k.all ≡ count g me.0 + made_count g new)
-      × Fits y.list.items new (slice_set s.views id (f (unlocked me.0))) id (f (unlocked me.0)))
-      → Allows Keeps slots id me 0 (λ _. 0) (λ _. gives_lock f (step slots 0 0 0 none) me 0)
-  unlocks f slots id me y carried live holds sum lets go s k len at small =
+      → me.0.before ≡ k.homes → Lawful s k id me.0 hs (f (unlocked me.0)))
+      → MayGive f slots id me
+  unlocks f slots id me y hs stands carried live holds sum lets go s k len at small =
       ⊎_elim
       (λ free. absurd (true≢false (sym holds ∙ free.4 id me.0 at)))
       (λ held.
@@ -198,13 +219,13 @@ module _ {T : Type 0} where
         w,
         gives,
         tt,
-        moved s k id me.0 w at part y.list.items r.0 k.ends r.1 r.2 r.3 (ap (λ x. x + k.ends) sum) r.4 r.5
+        moved s k id me.0 w at part hs r.0 k.ends r.1 r.2 r.3 (ap (λ x. x + k.ends) sum) r.4 r.5 r.6
             (slice_set s.words 0 0) (homes_after s.homes me.1 gives)
             (inl (
               y,
               ap (λ l. slice_set l 0 0) held.1,
               homes',
-              refl,
+              stands,
               λ j u e. ⊎_elim (λ (t : (j ≡ id) × (w ≡ u)). ap (λ (z : Knows T). z.holds) (sym t.1) ∙ lets)
                   (λ (t : (j ≢ id) × (get_elem? s.views j ≡ some u)). not_true u.holds (λ on. t.0
                   ((held.3 j u t.1 on).0 ∙ sym mine.0)))
@@ -213,29 +234,3 @@ module _ {T : Type 0} where
         (refl, ap rest carried),
       ))
       k.lock
-
-  -- nothing was done, or a segment was added, or a pass of one was issued
-  pub unlocks_same : (slots id : ℕ) (me : Sat T) (y : Homes T) → me.1 ≡ (0, y) ∷ [] → me.0.live ≡ true
-      → me.0.holds ≡ true
-      → ((all : List (Made T)) → Agrees me.0.before all → Agrees y.list.items all) → Grows me.0.before y.list.items
-      → Allows Keeps slots id me 0 (λ _. 0) (λ _. gives_lock (λ v. v) (step slots 0 0 0 none) me 0)
-  unlocks_same slots id me y carried live holds agree grows = unlocks
-      (λ v. v) slots id me y carried live holds refl refl
-      (λ s k at part before. let f = k.fits id me.0 at in let g : Grows k.homes y.list.items = subst
-      (λ l. Grows l y.list.items) before grows in (
-        k.all,
-        g,
-        agree k.all (subst (λ l. Agrees l k.all) (sym before) k.agrees),
-        (λ n _. refl),
-        (λ g. omega arith),
-        record {
-          named = f.named;
-          falls = f.falls;
-          near = near_grows k.homes y.list.items g me.0.at f.near;
-          inside = λ is. in_grows k.homes y.list.items g me.0 (f.inside is);
-          takes = λ is. next_grows k.homes y.list.items g me.0.at (f.takes is);
-          newborn = f.newborn;
-          idle = λ z. absurd (omega arith);
-          ended = ended_stay s k id me.0 (unlocked me.0) at part k.all (λ n _. refl);
-        },
-      ))

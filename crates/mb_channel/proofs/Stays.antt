@@ -1,16 +1,17 @@
 -- An end leaves a segment, and comes to one.
 use Rattle.std.proofs.Common.{ℕ, suc, Bool, true, false, true≢false, List, [], sym, refl, ap, subst, inl, inr, ⊎_elim, arith}
-use Rattle.std.proofs.Common.{◌≡◌, ◌≢◌, ◌⊎◌, ◌∷◌, ◌∙◌}
+use Rattle.std.proofs.Common.{◌≡◌, ◌≢◌, ◌⊎◌, ◌∷◌, ◌∙◌, ◌+◌, ◌-◌, ◌<◌, ◌≤◌}
 use Rattle.std.specs.Prelude.{Some, slice_set}
 use native.Mathlib.Decide.{ℕ_discrete}
-use mathlib.Core.Option.{some, none, some-injective}
+use mathlib.Core.Option.{some, some-injective}
 use lib.ListN.{get_elem?}
-use Rattle.atomic_table.specs.Table.{step, Allows}
+use Rattle.atomic_table.specs.Table.{State}
 use Rattle.atomic_table.proofs.Lists.{at_set, set_else, set_here}
-use Rattle.mb_channel.specs.Types.{Account, Home, Homes}
-use Rattle.mb_channel.specs.Homes.{Agrees, At, Grows, IsDone, IsNear, IsNext, Keeps, Made, Sat, came_back, came_to, gives_lock, left_segment, made_by, made_in, unlocked}
-use Rattle.mb_channel.proofs.Moves.{ended_stay, near_grows, next_grows, unlocks}
-use Rattle.mb_channel.proofs.Views.{by_other, by_own, in_other, in_own, made_map, size_set, there}
+use Rattle.mb_channel.specs.Types.{Account, Arc, Global, Home, Homes, Knows, Pass, Segment, Visit}
+use Rattle.mb_channel.specs.Homes.{Agrees, At, Falls, Grows, HasIssued, IsDone, IsNear, IsNext, IsShare, Keeps, Made, MayGive, Sat, Stands}
+use Rattle.mb_channel.specs.Homes.{came_back, came_to, is_in, left_segment, made_by, made_in, out_of, total, unlocked, went_on}
+use Rattle.mb_channel.proofs.Moves.{ended_stay, grows_same, near_grows, next_grows, unlocks}
+use Rattle.mb_channel.proofs.Views.{below_total, by_other, by_own, in_else, in_here, in_none, in_other, in_own, made_map, size_set, there}
 
 module _ {T : Type 0} where
   -- one segment's hub has changed
@@ -70,88 +71,140 @@ module _ {T : Type 0} where
   rich P true c e a next poor = inr (next e)
   rich P false c e a next poor = inl (poor e)
 
-  pub unlocks_left : (a : Account T) (slots id : ℕ) (me : Sat T) (y : Homes T) → me.1 ≡ (0, y) ∷ [] → me.0.live ≡ true
-      → me.0.holds ≡ true
-      → (h g : Home T) → get_elem? me.0.before me.0.at ≡ some h → y.list.items ≡ slice_set me.0.before me.0.at g
-      → g.segment ≡ h.segment
-      → (IsDone h → IsDone g) → came_back g ≡ a ∷ came_back h → (me.0.takes ≡ false → a.got ≡ [])
-      → Allows Keeps slots id me 0 (λ _. 0) (λ _. gives_lock (left_segment a g) (step slots 0 0 0 none) me 0)
-  unlocks_left a slots id me y carried live holds h g at is same done back poor = unlocks
-      (left_segment a g) slots id me y carried live holds refl refl
+  -- the passes that are out, where one segment's hub has changed
+  crowd_set : (s : State (Homes T) (Knows T)) (k : Keeps s) (v w : Knows T) (n : ℕ) (h g : Home T)
+      → get_elem? k.homes n ≡ some h → out_of g + is_in n v ≡ out_of h + is_in n w
+      → ((m : ℕ) → m ≢ n → is_in m v ≡ is_in m w)
+      → (m : ℕ) (u : Home T) → get_elem? (slice_set k.homes n g) m ≡ some u
+      → out_of u + is_in m v ≡ total (is_in m) s.views + is_in m w
+  crowd_set s k v w n h g at here else_ m u e = ⊎_elim
+      (λ (t : (m ≡ n) × (g ≡ u)). subst (λ (z : ℕ × Home T). out_of z.1 + is_in z.0 v ≡ total (is_in z.0) s.views
+      + is_in z.0 w) (λ i. (sym t.0 i, t.1 i)) (here ∙ ap (λ x. x + is_in n w) (k.crowd n h at)))
+      (λ (t : (m ≢ n) × (get_elem? k.homes m ≡ some u)). (
+      let c = k.crowd m u t.1 in let d = else_ m t.0 in omega arith
+      ))
+      (at_set k.homes n m g u e)
+
+  pub unlocks_left : (a : Account T) (done : Bool) (slots id : ℕ) (me : Sat T) (y : Homes T) (hs : List (Home T))
+      → Stands hs y → me.1 ≡ (0, y) ∷ [] → me.0.live ≡ true → me.0.holds ≡ true → me.0.inside ≡ true
+      → (h g : Home T) → get_elem? me.0.before me.0.at ≡ some h → hs ≡ slice_set me.0.before me.0.at g
+      → g.segment ≡ h.segment → (IsDone h → IsDone g) → came_back g ≡ a ∷ came_back h → out_of g ≡ out_of h - 1
+      → (done ≡ true → IsDone g) → (me.0.takes ≡ false → a.got ≡ [])
+      → MayGive (left_segment a done) slots id me
+  unlocks_left a done slots id me y hs stands carried live holds inside h g at is same keeps_ back out next poor =
+      unlocks (left_segment a done) slots id me y hs stands carried live holds refl refl
       (λ s k at' part before.
       let v = me.0 in
       let f = k.fits id v at' in
       let here : get_elem? k.homes v.at ≡ some h = ap (λ l. get_elem? l v.at) (sym before) ∙ at in
-      let now : y.list.items ≡ slice_set k.homes v.at g = is ∙ ap (λ l. slice_set l v.at g) before in
-      let grows : Grows k.homes (slice_set k.homes v.at g) = grows_set k.homes v.at h g here same done in
+      let now : hs ≡ slice_set k.homes v.at g = is ∙ ap (λ l. slice_set l v.at g) before in
+      let grows : Grows k.homes (slice_set k.homes v.at g) = grows_set k.homes v.at h g here same keeps_ in
       let m : Made T = record { by = id; visit = record { segment = v.at; account = a } } in
       let n = f.named live in
-      let others : (j : ℕ) → j ≢ id → made_by j (m ∷ k.all) ≡ made_by j k.all = λ j ne. by_other j m k.all ne in (
+      let w = left_segment a done (unlocked v) in
+      let others : (j : ℕ) → j ≢ id → made_by j (m ∷ k.all) ≡ made_by j k.all = λ j ne. by_other j m k.all ne in
+      let there_ : get_elem? (slice_set k.homes v.at g) v.at ≡ some g = set_here k.homes v.at g
+      (there k.homes v.at h here) in
+      let crowd : out_of g + is_in v.at v ≡ out_of h + is_in v.at w = (
+      let c = k.crowd v.at h here in let b = below_total (is_in v.at) s.views id v at' in
+      let one = in_here v v.at inside refl in let none_ = in_none w v.at refl in omega arith
+      ) in (
         m ∷ k.all,
         subst (λ l. Grows k.homes l) (sym now) grows,
         subst (λ l. Agrees l (m ∷ k.all)) (sym now) (agrees_back k.homes k.all v.at h g id a here grows back (rich
             (IsNext k.homes v.at) v.takes v.takes refl a f.takes poor) k.agrees),
         others,
         (λ w. let e : w v.number ≡ w id = ap w n.0 in omega arith),
+        (λ j u e. crowd_set s k v w v.at h g here crowd (λ i ne. in_else v i (λ q. ne (sym q)) ∙ sym (in_none w i refl))
+            j u (ap (λ l. get_elem? l j) (sym now) ∙ e)),
         record {
           named = λ _. (n.0, ap (λ l. record { segment = v.at; account = a } ∷ l) n.1 ∙ sym (by_own m k.all));
           falls = (omega arith, f.falls);
-          near = subst (λ l. IsNear l (suc v.at)) (sym now) (inr (
-            v.at,
-            refl,
-            (
-              g,
-              set_here k.homes v.at g
-                  (there k.homes v.at h here),
-              tt,
-            ),
-          ));
+          near = subst (λ l. IsNear l (suc v.at)) (sym now) (inr (v.at, refl, (g, there_, tt)));
           inside = λ q. absurd (true≢false (sym q));
-          takes = λ q. subst (λ l. IsNext l (suc v.at)) (sym now) (inr (
-            v.at,
-            refl,
-            (
-              g,
-              set_here k.homes v.at g
-                  (there k.homes v.at h here),
-              q,
-            ),
-          ));
+          takes = λ q. subst (λ l. IsNext l (suc v.at)) (sym now) (inr (v.at, refl, (g, there_, next q)));
           newborn = λ q. absurd (true≢false (sym live ∙ q));
           idle = λ z. absurd (omega arith);
-          ended = ended_stay s k id v (left_segment a g (unlocked v)) at' part (m ∷ k.all) others;
+          ended = ended_stay s k id v w at' part (m ∷ k.all) others;
         },
       ))
 
-  pub unlocks_came : (b : Bool) (g : Home T) (slots id : ℕ) (me : Sat T) (y : Homes T) → me.1 ≡ (0, y) ∷ []
-      → me.0.live ≡ true → me.0.holds ≡ true
-      → (h : Home T) → get_elem? me.0.before me.0.at ≡ some h → y.list.items ≡ slice_set me.0.before me.0.at g
-      → g.segment ≡ h.segment
-      → (IsDone h → IsDone g) → came_back g ≡ came_back h → (b ≡ true → me.0.takes ≡ true)
-      → Allows Keeps slots id me 0 (λ _. 0) (λ _. gives_lock (came_to g b) (step slots 0 0 0 none) me 0)
-  unlocks_came b g slots id me y carried live holds h at is same done back next = unlocks
-      (came_to g b) slots id me y carried live holds refl refl
+  pub unlocks_came : (b : Bool) (c : Arc (Segment T Global) Global) (p : Pass T) (g : Home T) (slots id : ℕ)
+      (me : Sat T) (y : Homes T) (hs : List (Home T))
+      → Stands hs y → me.1 ≡ (0, y) ∷ [] → me.0.live ≡ true → me.0.holds ≡ true → me.0.inside ≡ false
+      → (h : Home T) → get_elem? me.0.before me.0.at ≡ some h → hs ≡ slice_set me.0.before me.0.at g
+      → HasIssued h g c p → (b ≡ true → me.0.takes ≡ true)
+      → MayGive (came_to c b) slots id me
+  unlocks_came b c p g slots id me y hs stands carried live holds outside h at is did next = unlocks
+      (came_to c b) slots id me y hs stands carried live holds refl refl
       (λ s k at' part before.
       let v = me.0 in
       let f = k.fits id v at' in
       let here : get_elem? k.homes v.at ≡ some h = ap (λ l. get_elem? l v.at) (sym before) ∙ at in
-      let now : y.list.items ≡ slice_set k.homes v.at g = is ∙ ap (λ l. slice_set l v.at g) before in
-      let grows : Grows k.homes (slice_set k.homes v.at g) = grows_set k.homes v.at h g here same done in (
+      let now : hs ≡ slice_set k.homes v.at g = is ∙ ap (λ l. slice_set l v.at g) before in
+      let grows : Grows k.homes (slice_set k.homes v.at g) = grows_set k.homes v.at h g here did.0 did.2 in
+      let w = came_to c b (unlocked v) in
+      let more = did.3 in
+      let crowd : out_of g + is_in v.at v ≡ out_of h + is_in v.at w = (
+      let one = in_here w v.at refl refl in let none_ = in_none v v.at outside in omega arith
+      ) in (
         k.all,
         subst (λ l. Grows k.homes l) (sym now) grows,
-        subst (λ l. Agrees l k.all) (sym now) (agrees_set k.homes k.all v.at h g here grows back k.agrees),
+        subst (λ l. Agrees l k.all) (sym now) (agrees_set k.homes k.all v.at h g here grows did.1 k.agrees),
         (λ j _. refl),
         (λ w. omega arith),
+        (λ j u e. crowd_set s k v w v.at h g here crowd (λ i ne. in_none v i outside ∙ sym (in_else w i (λ q. ne
+            (sym q)))) j u (ap (λ l. get_elem? l j) (sym now) ∙ e)),
         record {
           named = f.named;
           falls = f.falls;
           near = subst (λ l. IsNear l v.at) (sym now) (near_grows k.homes (slice_set k.homes v.at g) grows v.at f.near);
-          inside = λ _. subst (λ l. At l v.at (λ (x : Home T). Some g.segment ≡ Some x.segment)) (sym now)
-              (g, set_here k.homes v.at g (there k.homes v.at h here), refl);
+          inside = λ _. subst (λ l. At l v.at (IsShare (Some c))) (sym now)
+              (g, set_here k.homes v.at g (there k.homes v.at h here), (c, refl, did.4));
           takes = λ q. subst (λ l. IsNext l v.at) (sym now) (next_grows k.homes (slice_set k.homes v.at g) grows v.at
               (f.takes (next q)));
           newborn = λ q. absurd (true≢false (sym live ∙ q));
           idle = λ z. absurd (omega arith);
-          ended = ended_stay s k id v (came_to g b (unlocked v)) at' part k.all (λ j _. refl);
+          ended = ended_stay s k id v w at' part k.all (λ j _. refl);
+        },
+      ))
+
+  falls_more : (b c : ℕ) (vs : List (Visit T)) → b ≤ c → Falls b vs → Falls c vs
+  falls_more b c [] le f = tt
+  falls_more b c (v ∷ vs) le f = (let x = f.0 in omega arith, f.1)
+
+  near_next : (hs : List (Home T)) (k : ℕ) → IsNext hs k → IsNear hs k
+  near_next hs k n = ⊎_elim (λ e. inl e) (λ t. inr (t.0, t.1, (t.2.0, t.2.1, tt))) n
+
+  -- all segments before place j are freed
+  pub unlocks_on : (j slots id : ℕ) (me : Sat T) (y : Homes T) (hs : List (Home T)) → Stands hs y
+      → me.1 ≡ (0, y) ∷ [] → me.0.live ≡ true → me.0.holds ≡ true → me.0.inside ≡ false → hs ≡ me.0.before
+      → me.0.at < j → IsNext me.0.before j → MayGive (went_on j) slots id me
+  unlocks_on j slots id me y hs stands carried live holds outside is far next = unlocks
+      (went_on j) slots id me y hs stands carried live holds refl refl
+      (λ s k at part before.
+      let v = me.0 in
+      let f = k.fits id v at in
+      let w = went_on j (unlocked v) in
+      let now : k.homes ≡ hs = sym before ∙ sym is in
+      let there_ : IsNext hs j = subst (λ l. IsNext l j) (sym is) next in (
+        k.all,
+        subst (λ l. Grows k.homes l) now (grows_same k.homes),
+        subst (λ l. Agrees l k.all) now k.agrees,
+        (λ n _. refl),
+        (λ g. omega arith),
+        (λ m h e. (
+            let c = k.crowd m h (ap (λ l. get_elem? l m) now ∙ e) in let a = in_none v m outside in
+            let b = in_none w m outside in omega arith
+            )),
+        record {
+          named = f.named;
+          falls = falls_more v.at j v.visits (omega arith) f.falls;
+          near = near_next hs j there_;
+          inside = λ q. absurd (true≢false (sym q ∙ outside));
+          takes = λ _. there_;
+          newborn = λ q. absurd (true≢false (sym live ∙ q));
+          idle = λ z. absurd (omega arith);
+          ended = ended_stay s k id v w at part k.all (λ n _. refl);
         },
       ))

@@ -27,6 +27,7 @@ module _ {T : Type 0} where
     order = λ n. logs.sends n ∙ sent_logs n 0 hs;
     after = logs.after;
     takers = λ n. logs.takes n ∙ taken_logs n 0 hs turn;
+    later = logs.later;
     beginning = begins hs turn;
     rest = logs.rest;
   }
@@ -37,5 +38,6 @@ module _ {T : Type 0} where
     sends = λ n. a.sends n ∙ sent_so n 0 ts;
     after = a.after;
     takes = λ n. a.takes n ∙ got_so n 0 ts;
+    later = a.later;
     rest = a.rest ∙ left_so ts;
   })

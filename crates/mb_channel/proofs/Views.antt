@@ -1,11 +1,11 @@
 -- Sums over views, and lists of visits.
-use Rattle.std.proofs.Common.{ℕ, zero, suc, Bool, true, false, List, [], length, sym, refl, ap, inl, inr, ⊎_elim, arith, eq-eqb, ne_eqb}
-use Rattle.std.proofs.Common.{◌≡◌, ◌≢◌, ◌+◌, ◌<◌, ◌≤◌, ◌⊎◌, ◌∷◌, ◌++◌, if◌then◌else◌}
+use Rattle.std.proofs.Common.{ℕ, zero, suc, Bool, true, false, List, [], length, nat_eq, sym, refl, ap, inl, inr, ⊎_elim, arith, eq-eqb, ne_eqb}
+use Rattle.std.proofs.Common.{◌≡◌, ◌≢◌, ◌+◌, ◌<◌, ◌≤◌, ◌⊎◌, ◌∷◌, ◌++◌, ◌∙◌, if◌then◌else◌}
 use Rattle.std.specs.Prelude.{slice_set}
 use mathlib.Core.Option.{some, some-injective, some-ne-none}
 use lib.ListN.{get_elem?}
 use Rattle.mb_channel.specs.Types.{Knows, Past}
-use Rattle.mb_channel.specs.Homes.{AllMade, AllPast, Made, made_by, made_in, past_count, total}
+use Rattle.mb_channel.specs.Homes.{AllMade, AllPast, Made, is_in, made_by, made_in, past_count, total}
 
 pub not_true : (b : Bool) → (b ≡ true → ⊥) → b ≡ false
 not_true true n = absurd (n refl)
@@ -63,8 +63,8 @@ module _ {T : Type 0} where
   two_below f (x ∷ xs) (suc i) (suc j) v w ne at at' = let r = two_below f xs i j v w (λ e. ne (ap suc e)) at at'
       in omega arith
 
-  all_zero : (f : Knows T → ℕ) (views : List (Knows T)) → ((j : ℕ) (u : Knows T) → get_elem? views j ≡ some u → f u ≡ 0)
-      → total f views ≡ 0
+  pub all_zero : (f : Knows T → ℕ) (views : List (Knows T))
+      → ((j : ℕ) (u : Knows T) → get_elem? views j ≡ some u → f u ≡ 0) → total f views ≡ 0
   all_zero f [] zeros = refl
   all_zero f (x ∷ xs) zeros = let e = zeros 0 x refl in let r = all_zero f xs (λ j u at. zeros (suc j) u at)
       in omega arith
@@ -77,6 +77,21 @@ module _ {T : Type 0} where
       let r = all_zero f xs (λ j u at'. zeros (suc j) u (λ q. omega arith) at') in omega arith
   only f (x ∷ xs) (suc id) v at zeros = let e = zeros 0 x (λ q. omega arith) refl in
       let r = only f xs id v at (λ j u ne at'. zeros (suc j) u (λ q. ne (omega arith)) at') in omega arith
+
+  -- who has a pass of segment k
+  pub in_here : (v : Knows T) (k : ℕ) → v.inside ≡ true → v.at ≡ k → is_in k v ≡ 1
+  in_here v k is e = ap (λ (b : Bool). if b then (if nat_eq v.at k then 1 else 0) else 0) is
+      ∙ ap (λ (b : Bool). if b then 1 else 0) (eq-eqb v.at k e)
+
+  pub in_none : (v : Knows T) (k : ℕ) → v.inside ≡ false → is_in k v ≡ 0
+  in_none v k is = ap (λ (b : Bool). if b then (if nat_eq v.at k then 1 else 0) else 0) is
+
+  pub in_else : (v : Knows T) (k : ℕ) → v.at ≢ k → is_in k v ≡ 0
+  in_else v k ne = go v.inside
+    where
+      go : (b : Bool) → ◌≡◌ {A = ℕ} (if b then (if nat_eq v.at k then 1 else 0) else 0) 0
+      go true = ap (λ (b : Bool). if b then 1 else 0) (ne_eqb v.at k ne)
+      go false = refl
 
   pub past_map : (P Q : Past T → Type 0) (ps : List (Past T)) → ((p : Past T) → P p → Q p) → AllPast P ps → AllPast Q ps
   past_map P Q [] f a = tt

@@ -1,6 +1,6 @@
 -- Lives and moments of channels of numbers: some that the theorem admits, and some that it refuses.
 use Rattle.std.specs.Prelude.{ℕ, zero, suc, Bool, true, false, List, [], ◌∷◌}
-use Rattle.mb_channel.specs.ChannelTheorem.{Claim, End, Entry, History, Moment, Segment, Send, Sleepers, Spot}
+use Rattle.mb_channel.specs.ChannelTheorem.{Call, Claim, End, Entry, History, Moment, Segment, Sleepers, Spot}
 
 abbrev pub entry : ℕ → ℕ → Entry ℕ
 entry n x = record { by = n; value = x }
@@ -15,14 +15,14 @@ history cs es = record { claims = cs; rest = es }
 abbrev pub spot : ℕ → ℕ → Spot ℕ
 spot p x = record { at = p; value = x }
 
--- x was sent to place p by one that knew of those below k
-abbrev pub sent_at : ℕ → ℕ → ℕ → Send ℕ
-sent_at p x k = record { spot = spot p x; knew = k }
+-- x was sent to place p, or taken from there, by one that knew of those below k
+abbrev pub call : ℕ → ℕ → ℕ → Call ℕ
+call p x k = record { spot = spot p x; knew = k }
 
-abbrev pub sender : List (Send ℕ) → End ℕ
+abbrev pub sender : List (Call ℕ) → End ℕ
 sender l = record { sends = l; takes = [] }
 
-abbrev pub receiver : List (Spot ℕ) → End ℕ
+abbrev pub receiver : List (Call ℕ) → End ℕ
 receiver l = record { sends = []; takes = l }
 
 -- ends 0 to 3, and no other
@@ -39,40 +39,48 @@ abbrev pub two_segments : List (History ℕ)
 two_segments = history (claim 0 10 2 ∷ claim 1 20 3 ∷ []) [] ∷ history [] (entry 0 11 ∷ []) ∷ []
 
 abbrev pub two_and_two : ℕ → End ℕ
-two_and_two = four (sender (sent_at 0 10 0 ∷ sent_at 2 11 1 ∷ [])) (sender (sent_at 1 20 1 ∷ []))
-    (receiver (spot 0 10 ∷ [])) (receiver (spot 1 20 ∷ []))
+two_and_two = four (sender (call 0 10 0 ∷ call 2 11 1 ∷ [])) (sender (call 1 20 1 ∷ []))
+    (receiver (call 0 10 0 ∷ [])) (receiver (call 1 20 1 ∷ []))
 
 -- end 0 sent 10 before 11, and they stand the other way round
 abbrev pub swapped_life : List (History ℕ)
 swapped_life = history [] (entry 0 11 ∷ entry 0 10 ∷ []) ∷ []
 
 abbrev pub one_sender : ℕ → End ℕ
-one_sender = four (sender (sent_at 1 10 0 ∷ sent_at 0 11 0 ∷ [])) (sender []) (receiver []) (receiver [])
+one_sender = four (sender (call 1 10 0 ∷ call 0 11 0 ∷ [])) (sender []) (receiver []) (receiver [])
 
 -- end 1 knew of the value at place 1, and its own stands before that
 abbrev pub unheeded_life : List (History ℕ)
 unheeded_life = history [] (entry 1 20 ∷ entry 0 10 ∷ []) ∷ []
 
 abbrev pub unheeded : ℕ → End ℕ
-unheeded = four (sender (sent_at 1 10 0 ∷ [])) (sender (sent_at 0 20 2 ∷ [])) (receiver []) (receiver [])
+unheeded = four (sender (call 1 10 0 ∷ [])) (sender (call 0 20 2 ∷ [])) (receiver []) (receiver [])
 
 -- both receivers got the value 10
 abbrev pub taken_twice : ℕ → End ℕ
-taken_twice = four (sender (sent_at 0 10 0 ∷ [])) (sender []) (receiver (spot 0 10 ∷ [])) (receiver (spot 0 10 ∷ []))
+taken_twice = four (sender (call 0 10 0 ∷ [])) (sender []) (receiver (call 0 10 0 ∷ [])) (receiver (call 0 10 0 ∷ []))
 
 abbrev pub one_taken : List (History ℕ)
 one_taken = history (claim 0 10 2 ∷ []) [] ∷ []
+
+-- end 3 knew that the value at place 1 was taken, and then took the one at place 0
+abbrev pub two_taken : List (History ℕ)
+two_taken = history (claim 0 10 3 ∷ claim 0 11 2 ∷ []) [] ∷ []
+
+abbrev pub unheeded_take : ℕ → End ℕ
+unheeded_take = four (sender (call 0 10 0 ∷ call 1 11 1 ∷ [])) (sender []) (receiver (call 1 11 0 ∷ []))
+    (receiver (call 0 10 2 ∷ []))
 
 -- the value 11 of the second segment was taken before 10 of the first
 abbrev pub overtaken_life : List (History ℕ)
 overtaken_life = history [] (entry 0 10 ∷ []) ∷ history (claim 0 11 2 ∷ []) [] ∷ []
 
 abbrev pub overtaken : ℕ → End ℕ
-overtaken = four (sender (sent_at 0 10 0 ∷ sent_at 1 11 1 ∷ [])) (sender []) (receiver (spot 1 11 ∷ [])) (receiver [])
+overtaken = four (sender (call 0 10 0 ∷ call 1 11 1 ∷ [])) (sender []) (receiver (call 1 11 0 ∷ [])) (receiver [])
 
 -- end 2 claimed a value, and none of its calls returned it
 abbrev pub forgotten : ℕ → End ℕ
-forgotten = four (sender (sent_at 0 10 0 ∷ [])) (sender []) (receiver []) (receiver [])
+forgotten = four (sender (call 0 10 0 ∷ [])) (sender []) (receiver []) (receiver [])
 
 -- ---- moments
 abbrev pub sleepers : ℕ → ℕ → ℕ → ℕ → Sleepers

@@ -43,13 +43,13 @@ pub record Spot (T : Type 0) : Type 0 where  -- a value at its place
   pub at : ℕ
   pub value : T
 
-pub record Send (T : Type 0) : Type 0 where  -- a call that sent a value
+pub record Call (T : Type 0) : Type 0 where  -- a call that sent a value, or that received one
   pub spot : Spot T
-  pub knew : ℕ  -- when it began, all that its sender had learned of were sends at places below `knew`
+  pub knew : ℕ  -- when it began, all calls of its kind that its end had learned of were at places below `knew`
 
 pub record End (T : Type 0) : Type 0 where  -- what an end did, in the order of its calls
-  pub sends : List (Send T)  -- what it sent
-  pub takes : List (Spot T)  -- what it received
+  pub sends : List (Call T)  -- what it sent
+  pub takes : List (Call T)  -- what it received
 
 -- of a list that begins at place p: the values sent by end n, and the values that end n took
 abbrev pub spots_by : {T : Type 0} → ℕ → ℕ → List (Entry T) → List (Spot T)
@@ -64,10 +64,12 @@ spots_to n p (c ∷ cs) =
 -- `ends n` is what end n did (nothing, if there was none), and `back` what the channel gives back when it ends
 pub record WholeLife {T : Type 0} (life : List (History T)) (ends : ℕ → End T) (back : List T) : Type 0 where
   -- Point 1, one order: what n sent stands in the list in n's order, each value behind all that n had learned of
-  pub order : (n : ℕ) → map (λ s. s.spot) (ends n).sends ≡ spots_by n 0 (sent life)
-  pub after : (n : ℕ) → All (λ s. s.knew ≤ s.spot.at) (ends n).sends
-  -- Point 2, one taker: what n received is what n took, in the list's order. The list's first values were taken
-  pub takers : (n : ℕ) → (ends n).takes ≡ spots_to n 0 (taken life)
+  pub order : (n : ℕ) → map (λ c. c.spot) (ends n).sends ≡ spots_by n 0 (sent life)
+  pub after : (n : ℕ) → All (λ c. c.knew ≤ c.spot.at) (ends n).sends
+  -- Point 2, one taker: what n received is what n took, in the list's order, each behind all takes that n had learned of.
+  -- The list's first values were taken
+  pub takers : (n : ℕ) → map (λ c. c.spot) (ends n).takes ≡ spots_to n 0 (taken life)
+  pub later : (n : ℕ) → All (λ c. c.knew ≤ c.spot.at) (ends n).takes
   pub beginning : sent life ≡ entries (taken life) ++ left life
   -- Point 3, nothing is lost: what is given back is the rest of the list, in order
   pub rest : back ≡ map (λ e. e.value) (left life)

@@ -4,10 +4,10 @@ use Rattle.std.specs.Prelude.{ℕ, suc, ◌≡◌, ◌≢◌, ◌+◌, ◌-◌, 
 use Rattle.std.specs.Prelude.{List, [], ◌∷◌, length, slice_set, Option, Some, None}
 use mathlib.Core.Option.{some, none}
 use lib.ListN.{get_elem?}
-use Rattle.atomic_table.specs.Table.{Me, State, Step}
+use Rattle.atomic_table.specs.Table.{Allows, Me, State, Step, step}
 use Rattle.atomic_table.specs.declared.shared.Seat.{Seat}
 use Rattle.mb_channel.specs.Types.{Account, Arc, Global, Home, Homes, Knows, Pass, Past, Segment, View, Visit, arc_value}
-use Rattle.mb_segment.specs.Vocabulary.{hub_view}
+use Rattle.mb_segment.specs.Vocabulary.{IsWhole as SegmentIsWhole, hub_view}
 
 -- ---- the visits of all ends, the newest first
 pub record Made (T : Type 0) : Type 0 where
@@ -40,6 +40,28 @@ came_back h = (hub_view h.hub).ends
 
 abbrev pub IsDone : {T : Type 0} → Home T → Type 0
 IsDone h = (hub_view h.hub).over ≡ true
+
+-- how many of its passes are out
+abbrev pub out_of : {T : Type 0} → Home T → ℕ
+out_of h = (hub_view h.hub).out
+
+-- its segment could be freed: no value can come any more, no pass is out, and nothing was left. What its passes did stays
+-- known, as `came_back h`
+pub record IsFreed {T : Type 0} (h : Home T) : Type 0 where
+  pub done : IsDone h
+  pub back : out_of h ≡ 0
+  pub whole : SegmentIsWhole (came_back h) []
+
+abbrev pub AllHomes : {T : Type 0} → (Home T → Type 0) → List (Home T) → Type 0
+AllHomes P [] = Unit {0}
+AllHomes P (h ∷ hs) = P h × AllHomes P hs
+
+-- of all segments that there ever were, the oldest are freed, and the others are in the list
+pub record Stands {T : Type 0} (hs : List (Home T)) (l : Homes T) : Type 0 where
+  pub gone : List (Home T)
+  pub all : hs ≡ gone ++ l.list.items
+  pub number : length gone ≡ l.first
+  pub freed : AllHomes IsFreed gone
 
 -- segment k is there, and P holds of it
 abbrev pub At : {T : Type 0} → List (Home T) → ℕ → (Home T → Type 0) → Type 0
@@ -74,7 +96,7 @@ first_view = record {
   inside = false;
   at = 0;
   place = None;
-  takes = false;
+  takes = true;
   ended = [];
   holds = false;
   before = [];
@@ -89,6 +111,10 @@ total f (v ∷ vs) = f v + total f vs
 
 abbrev pub rights : {T : Type 0} → Knows T → ℕ
 rights v = v.rights
+
+-- 1 for an end that has a pass of segment k
+abbrev pub is_in : {T : Type 0} → ℕ → Knows T → ℕ
+is_in k v = if v.inside then (if nat_eq v.at k then 1 else 0) else 0
 
 -- the visits that an end knows of, its own and those of the ends given back to it. One of end n counts f n
 abbrev pub times : {A : Type 0} → ℕ → List A → ℕ
@@ -117,9 +143,13 @@ IsSpent {T} views n = (w : Knows T) × (get_elem? views n ≡ some w) × (w.righ
 abbrev pub PastFits : {T : Type 0} → List (Made T) → List (Knows T) → Past T → Type 0
 PastFits all views p = (p.visits ≡ made_by p.number all) × ((b : ℕ) × Falls b p.visits) × IsSpent views p.number
 
--- where an end is: its segment is that of the list
+-- a share of this segment
+abbrev pub IsShare : {T : Type 0} → Option (Arc (Segment T Global) Global) → Home T → Type 0
+IsShare {T} place h = (s : Arc (Segment T Global) Global) × (place ≡ Some s) × (arc_value s ≡ arc_value h.segment)
+
+-- where an end is: it has a share of that segment
 abbrev pub IsIn : {T : Type 0} → List (Home T) → Knows T → Type 0
-IsIn hs v = At hs v.at (λ h. v.place ≡ Some h.segment)
+IsIn hs v = At hs v.at (IsShare v.place)
 
 -- number id's view
 pub record Fits {T : Type 0} (hs : List (Home T)) (all : List (Made T)) (views : List (Knows T)) (id : ℕ)
@@ -143,7 +173,7 @@ OneHolds {T} views hs holder = (id : ℕ) (v : Knows T) → get_elem? views id �
     → (id ≡ holder) × (v.before ≡ hs)
 
 abbrev pub IsFree : {T : Type 0} → State (Homes T) (Knows T) → List (Home T) → ℕ → Type 0
-IsFree {T} s hs n = (l : Homes T) × (s.words ≡ 0 ∷ n ∷ []) × (s.homes ≡ some l ∷ []) × (l.list.items ≡ hs)
+IsFree {T} s hs n = (l : Homes T) × (s.words ≡ 0 ∷ n ∷ []) × (s.homes ≡ some l ∷ []) × Stands hs l
     × NobodyHolds s.views
 
 abbrev pub IsHeld : {T : Type 0} → State (Homes T) (Knows T) → List (Home T) → ℕ → Type 0
@@ -156,6 +186,7 @@ pub record Keeps {T : Type 0} (s : State (Homes T) (Knows T)) : Type 0 where
   pub lock : IsFree s homes ends ⊎ IsHeld s homes ends
   pub agrees : Agrees homes all
   pub rights_ : total rights s.views ≡ ends
+  pub crowd : (k : ℕ) (h : Home T) → get_elem? homes k ≡ some h → out_of h ≡ total (is_in k) s.views
   pub balance : (f : ℕ → ℕ) → total (count f) s.views ≡ made_count f all
   pub fresh : (n : ℕ) → length s.views ≤ n → made_by n all ≡ []
   pub fits : (id : ℕ) (v : Knows T) → get_elem? s.views id ≡ some v → Fits homes all s.views id v
@@ -190,30 +221,42 @@ abbrev pub newborn_view : {T : Type 0} → Knows T → Knows T
 newborn_view v = record first_view { at = v.at; takes = v.takes }
 
 -- it has left its segment, in which it did this. If that is done, it may receive in the next one
-abbrev pub left_segment : {T : Type 0} → Account T → Home T → Knows T → Knows T
-left_segment a h v = record v {
+abbrev pub left_segment : {T : Type 0} → Account T → Bool → Knows T → Knows T
+left_segment a done v = record v {
   visits = record { segment = v.at; account = a } ∷ v.visits;
   inside = false;
   at = suc v.at;
-  takes = (hub_view h.hub).over;
+  takes = done;
 }
 
--- it has come to its segment, and may receive there or not
-abbrev pub came_to : {T : Type 0} → Home T → Bool → Knows T → Knows T
-came_to h b v = record v { inside = true; place = Some h.segment; takes = b }
+-- all segments before k are freed: it goes on to that one, and may receive there
+abbrev pub went_on : {T : Type 0} → ℕ → Knows T → Knows T
+went_on k v = record v { at = k; takes = true }
 
--- what an end finds in the list
+-- it has come to its segment, of which this is its share, and may receive there or not
+abbrev pub came_to : {T : Type 0} → Arc (Segment T Global) Global → Bool → Knows T → Knows T
+came_to s b v = record v { inside = true; place = Some s; takes = b }
+
+-- a pass of segment k is out
+abbrev pub IsBusy : {T : Type 0} → List (Home T) → ℕ → Type 0
+IsBusy hs k = At hs k (λ h. 0 < out_of h)
+
+-- what an end finds in the list. While it has a pass of a segment, that is not freed
 abbrev pub Finds : {T : Type 0} → List (Home T) → Knows T → Type 0
-Finds hs v = IsNear hs v.at × (v.inside ≡ true → IsIn hs v) × (v.takes ≡ true → IsNext hs v.at)
+Finds hs v = IsNear hs v.at × (v.inside ≡ true → IsIn hs v × IsBusy hs v.at) × (v.takes ≡ true → IsNext hs v.at)
 
 -- ---- what a step tells
 abbrev pub takes_lock : {T : Type 0} → Step (Homes T) → Sat T → ℕ → Sat T → Type 0
-takes_lock {T} st m r n = (r ≡ 0 → (l : Homes T) × (n ≡ (locked l.list.items m.0, (0, l) ∷ m.1))
-    × Finds l.list.items m.0)
+takes_lock {T} st m r n = (r ≡ 0 → (l : Homes T) × (hs : List (Home T)) × Stands hs l
+    × (n ≡ (locked hs m.0, (0, l) ∷ m.1)) × Finds hs m.0)
     × (r ≢ 0 → n ≡ m)
 
 abbrev pub gives_lock : {T : Type 0} → (Knows T → Knows T) → Step (Homes T) → Sat T → ℕ → Sat T → Type 0
 gives_lock f st m r n = (n.0 ≡ f (unlocked m.0)) × (n.1 ≡ [])
+
+-- giving the lock back keeps the rule, whatever the other ends do
+abbrev pub MayGive : {T : Type 0} → (Knows T → Knows T) → ℕ → ℕ → Sat T → Type 0
+MayGive f slots id me = Allows Keeps slots id me 0 (λ _. 0) (λ _. gives_lock f (step slots 0 0 0 none) me 0)
 
 abbrev pub gets_number : {T : Type 0} → Step (Homes T) → Sat T → ℕ → Sat T → Type 0
 gets_number st m r n = (id : ℕ) × (n ≡ (record m.0 { live = true; number = id }, m.1))
@@ -221,35 +264,27 @@ gets_number st m r n = (id : ℕ) × (n ≡ (record m.0 { live = true; number = 
 abbrev pub counting : {T : Type 0} → Step (Homes T) → Sat T → ℕ → Sat T → Type 0
 counting st m r n = (n.1 ≡ m.1) × (r ≡ st.first → n.0 ≡ counts_more m.0) × (r ≢ st.first → n.0 ≡ m.0)
 
--- it leaves its segment, whose hub has just taken back its pass
-abbrev pub leaves : {T : Type 0} → Step (Homes T) → Sat T → ℕ → Sat T → Type 0
-leaves {T} st m r n = (a : Account T) × (l : Homes T) × (m.1 ≡ (0, l) ∷ [])
-    × At l.list.items m.0.at (λ h. ((before : List (Account T)) × (came_back h ≡ a ∷ before))
-    × (n.0 ≡ left_segment a h (unlocked m.0)))
-    × (n.1 ≡ [])
-
--- it comes to the segment at which it is, whose hub has just issued a pass
-abbrev pub comes : {T : Type 0} → Bool → Step (Homes T) → Sat T → ℕ → Sat T → Type 0
-comes {T} b st m r n = (h : Home T) × (l : Homes T) × (m.1 ≡ (0, l) ∷ []) × (get_elem? l.list.items m.0.at ≡ some h)
-    × (n.0 ≡ came_to h b (unlocked m.0)) × (n.1 ≡ [])
-
 -- ---- what a hub did under the lock
 -- it took back a pass with this view
 abbrev pub HasTakenBack : {T : Type 0} → Home T → Home T → View T → Type 0
 HasTakenBack h g v = (g.segment ≡ h.segment) × (came_back g ≡ v.account ∷ came_back h) × (IsDone h → IsDone g)
-    × (v.over ≡ true → IsDone g)
+    × (v.over ≡ true → IsDone g) × (out_of g ≡ out_of h - 1)
 
--- it issued a pass, and knows no more than before
-abbrev pub HasIssued : {T : Type 0} → Home T → Home T → Type 0
-HasIssued h g = (g.segment ≡ h.segment) × (came_back g ≡ came_back h) × (IsDone h → IsDone g)
+-- it issued this pass, with a share of the segment, and knows no more than before
+abbrev pub HasIssued : {T : Type 0} → Home T → Home T → Arc (Segment T Global) Global → Pass T → Type 0
+HasIssued h g s p = (g.segment ≡ h.segment) × (came_back g ≡ came_back h) × (IsDone h → IsDone g)
+    × (out_of g ≡ out_of h + 1) × (arc_value s ≡ arc_value g.segment) × (p.seat.table_id ≡ g.hub.seat.table_id)
 
 -- the home at k has changed so
 abbrev pub Changes : {T : Type 0} → List (Home T) → List (Home T) → ℕ → (Home T → Home T → Type 0) → Type 0
 Changes {T} hs gs k P = (h : Home T) × (g : Home T) × (get_elem? hs k ≡ some h) × (gs ≡ slice_set hs k g) × P h g
 
--- the list, with one segment more or not, of which nobody came back
+abbrev pub IsNew : {T : Type 0} → Home T → Type 0
+IsNew h = (came_back h ≡ []) × (out_of h ≡ 0)
+
+-- the list, with a new segment more or not
 abbrev pub Longer : {T : Type 0} → List (Home T) → List (Home T) → Type 0
-Longer {T} hs gs = (gs ≡ hs) ⊎ ((h : Home T) × (came_back h ≡ []) × (gs ≡ hs ++ h ∷ []))
+Longer {T} hs gs = (gs ≡ hs) ⊎ ((h : Home T) × IsNew h × (gs ≡ hs ++ h ∷ []))
 
 -- the pass is of this segment
 abbrev pub IsPassOf : {T : Type 0} → Option (Arc (Segment T Global) Global) → Pass T → Type 0
@@ -265,17 +300,19 @@ abbrev pub IsNone : {T : Type 0} → ℕ → List (Past T) → Type 0
 IsNone n [] = Unit {0}
 IsNone n (p ∷ ps) = (p.number ≢ n) × IsNone n ps
 
--- once an end has taken back all others: what each did in which segment is what the hubs know, and nobody else did anything
+-- once an end has taken back all others: what each did in which segment is what the hubs know, and nobody else did
+-- anything. If it has left its own segment, no pass is out
 pub record IsWhole {T : Type 0} (v : Knows T) (hs : List (Home T)) : Type 0 where
   pub all : List (Made T)
   pub agrees : Agrees hs all
   pub own : (v.visits ≡ made_by v.number all) × Falls v.at v.visits
   pub others : AllPast (λ p. (p.visits ≡ made_by p.number all) × ((b : ℕ) × Falls b p.visits)) v.ended
   pub nobody : (n : ℕ) → v.number ≢ n → IsNone n v.ended → made_by n all ≡ []
+  pub empty : v.inside ≡ false → AllHomes (λ h. out_of h ≡ 0) hs
 
 -- the seat has the list, of which this holds
 abbrev pub HoldsHomes : {T : Type 0} → Sat T → (List (Home T) → Type 0) → Type 0
-HoldsHomes {T} m P = (l : Homes T) × (m.1 ≡ (0, l) ∷ []) × P l.list.items
+HoldsHomes {T} m P = (l : Homes T) × (m.1 ≡ (0, l) ∷ []) × (hs : List (Home T)) × Stands hs l × P hs
 
 -- the end has a number, and not the lock
 abbrev pub IsReady : {T : Type 0} → Sat T → Type 0

@@ -4,3 +4,6 @@ pub mod Segments
 pub mod Stays
 pub mod Types
 pub mod Homes
+pub mod Answers
+pub mod Lives
+pub mod LifeSamples

@@ -53,7 +53,8 @@ logs_to n p (h ∷ hs) = spots_to n p h.claims ++ logs_to n (p + drawn h) hs
 
 -- segment by segment: what the ends did is what the segments tell of them
 pub record AreLogs {T : Type 0} (hs : List (History T)) (ends : ℕ → End T) (back : List T) : Type 0 where
-  pub sends : (n : ℕ) → map (λ s. s.spot) (ends n).sends ≡ logs_by n 0 hs
-  pub after : (n : ℕ) → All (λ s. s.knew ≤ s.spot.at) (ends n).sends
-  pub takes : (n : ℕ) → (ends n).takes ≡ logs_to n 0 hs
+  pub sends : (n : ℕ) → map (λ c. c.spot) (ends n).sends ≡ logs_by n 0 hs
+  pub after : (n : ℕ) → All (λ c. c.knew ≤ c.spot.at) (ends n).sends
+  pub takes : (n : ℕ) → map (λ c. c.spot) (ends n).takes ≡ logs_to n 0 hs
+  pub later : (n : ℕ) → All (λ c. c.knew ≤ c.spot.at) (ends n).takes
   pub rest : back ≡ map (λ e. e.value) (left hs)

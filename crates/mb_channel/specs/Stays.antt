@@ -63,31 +63,24 @@ by_ends t = record { claims = map (named_claim t.stays) t.history.claims; rest =
 abbrev pub life_of : {T : Type 0} → List (Told T) → List (History T)
 life_of = map by_ends
 
--- what end n sent and took in one segment
-abbrev pub sent_of : {T : Type 0} → ℕ → List (Stay T) → List (Spot T)
-sent_of n [] = []
-sent_of n (s ∷ ss) = if nat_eq s.end n then s.sent else sent_of n ss
-
-abbrev pub got_of : {T : Type 0} → ℕ → List (Stay T) → List (Spot T)
-got_of n [] = []
-got_of n (s ∷ ss) = if nat_eq s.end n then s.got else got_of n ss
+-- what these logs say that end n did in one segment
+abbrev pub log_of : {T : Type 0} → (Stay T → List (Spot T)) → ℕ → List (Stay T) → List (Spot T)
+log_of f n [] = []
+log_of f n (s ∷ ss) = if nat_eq s.end n then f s else log_of f n ss
 
 abbrev pub moved_by : {T : Type 0} → ℕ → Spot T → Spot T
 moved_by p s = record { at = p + s.at; value = s.value }
 
 -- and in all, where the first segment begins at place p
-abbrev pub all_sent_of : {T : Type 0} → ℕ → ℕ → List (Told T) → List (Spot T)
-all_sent_of n p [] = []
-all_sent_of n p (t ∷ ts) = map (moved_by p) (sent_of n t.stays) ++ all_sent_of n (p + drawn t.history) ts
-
-abbrev pub all_got_of : {T : Type 0} → ℕ → ℕ → List (Told T) → List (Spot T)
-all_got_of n p [] = []
-all_got_of n p (t ∷ ts) = map (moved_by p) (got_of n t.stays) ++ all_got_of n (p + drawn t.history) ts
+abbrev pub logs_of : {T : Type 0} → (Stay T → List (Spot T)) → ℕ → ℕ → List (Told T) → List (Spot T)
+logs_of f n p [] = []
+logs_of f n p (t ∷ ts) = map (moved_by p) (log_of f n t.stays) ++ logs_of f n (p + drawn t.history) ts
 
 -- the ends say what their stays were, and what is given back is what the segments had left
 pub record AreStays {T : Type 0} (ts : List (Told T)) (ends : ℕ → End T) (back : List T) : Type 0 where
-  pub sends : (n : ℕ) → map (λ s. s.spot) (ends n).sends ≡ all_sent_of n 0 ts
-  pub after : (n : ℕ) → All (λ s. s.knew ≤ s.spot.at) (ends n).sends
-  pub takes : (n : ℕ) → (ends n).takes ≡ all_got_of n 0 ts
+  pub sends : (n : ℕ) → map (λ c. c.spot) (ends n).sends ≡ logs_of (λ s. s.sent) n 0 ts
+  pub after : (n : ℕ) → All (λ c. c.knew ≤ c.spot.at) (ends n).sends
+  pub takes : (n : ℕ) → map (λ c. c.spot) (ends n).takes ≡ logs_of (λ s. s.got) n 0 ts
+  pub later : (n : ℕ) → All (λ c. c.knew ≤ c.spot.at) (ends n).takes
   pub rest : back ≡ map (λ e. e.value) (left (map (λ t. t.history) ts))
   pub turn : TakenInTurn (map (λ t. t.history) ts)

@@ -5,6 +5,7 @@ pub use Rattle.std.specs.declared.sync.Arc.{Arc}
 pub use Rattle.mb_segment.specs.declared.segment.Pass.{Pass}
 pub use Rattle.mb_segment.specs.declared.segment.Segment.{Segment}
 pub use Rattle.mb_segment.specs.declared.view.Account.{Account}
+pub use Rattle.mb_segment.specs.declared.view.Spot.{Spot as Position}
 pub use Rattle.mb_segment.specs.declared.view.View.{View}
 pub use Rattle.mb_channel.specs.declared.home.Home.{Home}
 pub use Rattle.mb_channel.specs.declared.home.Homes.{Homes}

@@ -2,6 +2,9 @@
 ghost use Rattle.std.specs.Prelude.{ℕ, List};
 ghost use Rattle.mb_channel.specs.ChannelTheorem.{EachMoment, End, History, Moment, Segment, WholeLife, life};
 ghost use Rattle.mb_channel.specs.Stays.{AreStays, Told, life_of};
+ghost use Rattle.mb_channel.specs.Types.{Home, Knows};
+ghost use Rattle.mb_channel.specs.Homes.{IsWhole};
+ghost use Rattle.mb_channel.specs.Lives.{DoneInTurn, HaveEnded, HaveLived, all_left, end_in};
 ghost use Rattle.mb_channel.specs.Segments.{AreLogs, EachKeeps, InTurn, KeepsEnd, TakenInTurn};
 
 /// At each moment: if each segment keeps its own rule, and they follow each other in turn, the channel's points hold.
@@ -23,4 +26,12 @@ pub fn lives_keep_the_theorem<T>()
 pub fn passes_make_ends<T>()
     ensures life { (ts : List (Told T)) (ends : ℕ → End T) (back : List T)
         → AreStays ts ends back → WholeLife (life_of ts) ends back }
+{}
+
+/// Of a whole life: let the list end, and each of its segments. What the ends did is then read off their visits, what is
+/// given back is what the segments had left, and both are of one life.
+pub fn lists_make_lives<T: Drop>()
+    ensures life { (v : Knows T) (hs : List (Home T)) (ls : List (List T))
+        → IsWhole v hs → HaveEnded hs ls → DoneInTurn hs
+        → HaveLived (end_in v hs) (all_left ls) }
 {}

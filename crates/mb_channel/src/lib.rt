@@ -2,6 +2,7 @@
 //! segments on which it will stand.
 #![tactic(auto)]
 
+mod answers;
 mod home;
 pub mod laws;
 mod list;
@@ -9,6 +10,8 @@ mod passes;
 mod rule;
 pub mod samples;
 mod view;
+mod visits;
 
-pub use home::{Home, Homes};
+pub use answers::Came;
+pub use home::{Home, Homes, Shared};
 pub use view::{Knows, Past, Visit};

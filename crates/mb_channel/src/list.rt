@@ -1,26 +1,23 @@
 //! The list of segments: its lock, which is tried and never waited for, and its ends.
-ghost use Rattle.std.specs.Prelude.{ℕ, ◌≡◌, ◌≢◌, ◌+◌, ◌<◌, ◌∷◌, [], true, false, IfOk, IfErr, IfSome, IfNone};
-ghost use Rattle.mb_segment.specs.Seats.{view_in as pass_view};
-ghost use Rattle.mb_segment.specs.Vocabulary.{IsFree, blank};
-ghost use Rattle.mb_channel.specs.Homes.{At, Changes, Finds, HasTakenBack, HoldsHomes, IsDone, IsPassOf, IsReady, IsWhole, Longer, both, came_to, counts_less, counts_more};
-ghost use Rattle.mb_channel.specs.Homes.{left_segment, locked, newborn_view, unlocked, view_in};
-ghost use Rattle.mb_channel.specs.Homes.{HasIssued, IsFirst};
+ghost use Rattle.std.specs.Prelude.{ℕ, List as Seq, ◌≡◌, ◌≢◌, ◌+◌, ◌<◌, ◌∷◌, [], true, false, IfOk, IfSome};
+ghost use Rattle.mb_channel.specs.Homes.{Finds, HoldsHomes, IsFirst, IsReady, IsWhole, Longer, MayGive, Stands, both};
+ghost use Rattle.mb_channel.specs.Homes.{counts_less, counts_more, locked, newborn_view, unlocked, view_in};
 ghost use Rattle.mb_channel.specs.declared.home.Home.{Home};
 ghost use Rattle.mb_channel.specs.declared.home.Homes.{Homes};
 
 use crate::home::Homes;
-use crate::rule::{Comes, Counts, Ends, GetsNumber, GivesLock, Leaves, ListRule, Side, TakesLock};
+use crate::rule::{Change, Counts, Ends, GetsNumber, GivesLock, ListRule, TakesLock};
 use crate::view::Knows;
 use atomic_table::{Seat, Table};
-use mb_segment::Pass;
 use std::alloc::{AllocError, Global};
+use std::marker::Brand;
 
 /// What an end steps with on the list. It has no bytes.
 pub type Chair<T> = Seat<Homes<T>, Knows<T>>;
 
 #[derive(Drop)]
 pub struct List<T: Drop> {
-    table: Table<Homes<T>, Knows<T>, (), ListRule, Global>,
+    pub(crate) table: Table<Homes<T>, Knows<T>, (), ListRule, Global>,
     ghost shape: { (table.shared.table_id.words ≡ 2) × (table.shared.table_id.slots ≡ 1) },
 }
 
@@ -52,102 +49,26 @@ impl<T: Drop> List<T> {
             == 0
     }
 
+    /// Gives the lock back, and changes the view as the caller's proof picks.
+    pub(crate) fn give<F: Change<T>>(&self, chair: &mut Chair<T>)
+        requires list { chair.old.table_id ≡ self.now.table.shared.table_id }
+        requires lawful { MayGive F.of 1 chair.old.id chair.old.me }
+        ensures list { (chair.new.table_id ≡ chair.old.table_id) × (chair.new.id ≡ chair.old.id) }
+        ensures view { (view_in chair.new ≡ F.of (unlocked (view_in chair.old)))
+            × (chair.new.me.1 ≡ []) }
+    {
+        self.table.shared.store::<GivesLock<F>>(chair, 0, 0);
+    }
+
     /// Gives the lock back. The list is as it was found, or has one segment more.
-    fn unlock(&self, chair: &mut Chair<T>)
+    pub(crate) fn unlock(&self, chair: &mut Chair<T>)
         requires list { chair.old.table_id ≡ self.now.table.shared.table_id }
         requires held { ((view_in chair.old).live ≡ true) × ((view_in chair.old).holds ≡ true) }
         requires homes { HoldsHomes chair.old.me (Longer (view_in chair.old).before) }
         ensures list { (chair.new.table_id ≡ chair.old.table_id) × (chair.new.id ≡ chair.old.id) }
         ensures view { (view_in chair.new ≡ unlocked (view_in chair.old)) × (chair.new.me.1 ≡ []) }
     {
-        self.table.shared.store::<GivesLock>(chair, 0, 0);
-    }
-
-    /// The segment at this place takes back a pass of its own.
-    fn give_pass(&self, chair: &mut Chair<T>, at: usize, pass: Pass<T>)
-        requires list { chair.old.table_id ≡ self.now.table.shared.table_id }
-        requires homes { HoldsHomes chair.old.me (λ hs. hs ≡ (view_in chair.old).before) }
-        requires segment { At (view_in chair.old).before at
-            (λ h. pass.seat.table_id ≡ h.hub.seat.table_id) }
-        requires free { IsFree pass }
-        ensures list { (chair.new.table_id ≡ chair.old.table_id) × (chair.new.id ≡ chair.old.id) }
-        ensures view { view_in chair.new ≡ view_in chair.old }
-        ensures homes { HoldsHomes chair.new.me (λ hs.
-            Changes (view_in chair.old).before hs at (λ h g. HasTakenBack h g (pass_view pass))) }
-    {
-        let homes = chair.slot_mut(&self.table.shared, 0);
-        homes.take_back(at, pass);
-    }
-
-    /// Leaves the segment at this place, to which the pass belongs. It gives the pass back in `Err` if the lock is taken.
-    pub fn leave(&self, chair: &mut Chair<T>, at: usize, pass: Pass<T>) -> Result<(), Pass<T>>
-        requires list { chair.old.table_id ≡ self.now.table.shared.table_id }
-        requires ready { IsReady chair.old.me }
-        requires here { ((view_in chair.old).at ≡ at) × ((view_in chair.old).inside ≡ true) }
-        requires pass { IsPassOf (view_in chair.old).place pass × IsFree pass }
-        requires poor { (view_in chair.old).takes ≡ false → (pass_view pass).account.got ≡ [] }
-        ensures list { (chair.new.table_id ≡ chair.old.table_id) × (chair.new.id ≡ chair.old.id) }
-        ensures left { IfOk result (λ _. (h : Home T) × (chair.new.me.1 ≡ [])
-            × (view_in chair.new
-            ≡ left_segment (pass_view pass).account h (unlocked (view_in chair.old)))
-            × ((pass_view pass).over ≡ true → IsDone h)) }
-        ensures kept { IfErr result (λ p. (p ≡ pass) × (chair.new.me ≡ chair.old.me)) }
-    {
-        if !self.try_lock(chair) {
-            return Err(pass);
-        }
-        self.give_pass(chair, at, pass);
-        self.table.shared.store::<Leaves>(chair, 0, 0);
-        Ok(())
-    }
-
-    /// The segment at this place issues a pass.
-    fn get_pass(&self, chair: &mut Chair<T>, at: usize) -> Option<Pass<T>>
-        requires list { chair.old.table_id ≡ self.now.table.shared.table_id }
-        requires homes { HoldsHomes chair.old.me (λ hs. hs ≡ (view_in chair.old).before) }
-        ensures list { (chair.new.table_id ≡ chair.old.table_id) × (chair.new.id ≡ chair.old.id) }
-        ensures view { view_in chair.new ≡ view_in chair.old }
-        ensures some { IfSome result (λ p. HoldsHomes chair.new.me (λ hs.
-            Changes (view_in chair.old).before hs at HasIssued
-            × At hs at (λ h. p.seat.table_id ≡ h.hub.seat.table_id))
-            × (pass_view p ≡ blank) × IsFree p) }
-        ensures none { IfNone result
-            (HoldsHomes chair.new.me (λ hs. hs ≡ (view_in chair.old).before)) }
-    {
-        let homes = chair.slot_mut(&self.table.shared, 0);
-        if at < homes.list.len() {
-            Some(homes.issue(at))
-        } else {
-            None
-        }
-    }
-
-    /// Comes to the segment at this place, to send alone or to receive too. It is `None` if the lock is taken, or if
-    /// there is no such segment yet.
-    pub fn come<B: Side>(&self, chair: &mut Chair<T>, at: usize) -> Option<Pass<T>>
-        requires list { chair.old.table_id ≡ self.now.table.shared.table_id }
-        requires ready { IsReady chair.old.me }
-        requires here { (view_in chair.old).at ≡ at }
-        requires side { B.takes ≡ true → (view_in chair.old).takes ≡ true }
-        ensures list { (chair.new.table_id ≡ chair.old.table_id) × (chair.new.id ≡ chair.old.id) }
-        ensures came { IfSome result (λ p. (h : Home T) × (chair.new.me.1 ≡ [])
-            × (view_in chair.new ≡ came_to h B.takes (unlocked (view_in chair.old)))
-            × IsPassOf (view_in chair.new).place p × (pass_view p ≡ blank) × IsFree p) }
-        ensures none { IfNone result (chair.new.me ≡ chair.old.me) }
-    {
-        if !self.try_lock(chair) {
-            return None;
-        }
-        match self.get_pass(chair, at) {
-            Some(pass) => {
-                self.table.shared.store::<Comes<B>>(chair, 0, 0);
-                Some(pass)
-            }
-            None => {
-                self.unlock(chair);
-                None
-            }
-        }
+        self.give::<Brand>(chair);
     }
 
     /// Adds a segment of this many positions at this place, if there is none yet.
@@ -165,7 +86,9 @@ impl<T: Drop> List<T> {
         ensures homes { HoldsHomes chair.new.me (Longer (view_in chair.old).before) }
     {
         let homes = chair.slot_mut(&self.table.shared, 0);
-        if at == homes.list.len() {
+        if at < homes.first {
+            Ok(())
+        } else if at - homes.first == homes.list.len() {
             homes.append(alloc, size)
         } else {
             Ok(())
@@ -198,7 +121,8 @@ impl<T: Drop> List<T> {
     /// A list with no segment, and its first chair. The error is [`AllocError`] if the allocator refuses the memory.
     pub fn new(alloc: Global) -> Result<(List<T>, Chair<T>), AllocError>
         ensures list { IfOk result (λ r. r.1.table_id ≡ r.0.table.shared.table_id) }
-        ensures first { IfOk result (λ r. IsReady r.1.me × IsFirst (view_in r.1)) }
+        ensures first { IfOk result (λ r. IsReady r.1.me × IsFirst (view_in r.1)
+            × ((view_in r.1).at ≡ 0) × ((view_in r.1).takes ≡ true)) }
     {
         let homes = no_homes(alloc)?;
         match Table::new(alloc, &[0, 1], homes, &()) {
@@ -247,11 +171,12 @@ impl<T: Drop> List<T> {
         new
     }
 
-    /// Takes back the chair of another end.
+    /// Takes back the chair of another end, which has left its segment.
     pub fn give_back(&self, chair: &mut Chair<T>, other: Chair<T>)
         requires list { (chair.old.table_id ≡ self.now.table.shared.table_id)
             × (other.table_id ≡ self.now.table.shared.table_id) }
         requires ready { IsReady chair.old.me × IsReady other.me }
+        requires outside { (view_in other).inside ≡ false }
         ensures list { chair.new.table_id ≡ chair.old.table_id }
         ensures both { (chair.new.me.1 ≡ [])
             × (view_in chair.new ≡ both (view_in chair.old) (view_in other)) }
@@ -259,13 +184,14 @@ impl<T: Drop> List<T> {
         self.table.shared.join_seat::<Ends>(chair, other);
     }
 
-    /// Ends the list. The segments come back, with what each end did in which. It is `None` if an end was not given back
-    /// or stopped while it had the lock.
+    /// Ends the list. The segments that are not freed come back, with what each end did in which. It is `None` if an end
+    /// was not given back or stopped while it had the lock.
     pub fn end(self, chair: Chair<T>) -> Option<Homes<T>>
         requires list { chair.table_id ≡ self.table.shared.table_id }
         requires ready { IsReady chair.me }
         requires last { (view_in chair).rights ≡ 1 }
-        ensures whole { IfSome result (λ hs. IsWhole (view_in chair) hs.list.items) }
+        ensures whole { IfSome result (λ l. (hs : Seq (Home T)) × Stands hs l
+            × IsWhole (view_in chair) hs) }
     {
         let List { table } = self;
         let mut closed = table.close_with(chair);
@@ -282,7 +208,8 @@ impl<T: Drop> List<T> {
 }
 
 fn no_homes<T: Drop>(alloc: Global) -> Result<Vec<Homes<T>>, AllocError>
-    ensures { IfOk result (λ v. (l : Homes T) × (v.items ≡ l ∷ []) × (l.list.items ≡ [])) }
+    ensures { IfOk result (λ v. (l : Homes T) × (v.items ≡ l ∷ []) × (l.list.items ≡ [])
+        × (l.first ≡ 0)) }
 {
     let mut homes = Vec::new(alloc);
     homes.push(Homes::none(alloc))?;

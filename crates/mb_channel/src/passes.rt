@@ -1,23 +1,29 @@
 //! Passes of the segments in the list: the hubs issue them and take them back.
-ghost use Rattle.std.specs.Prelude.{◌≡◌, ◌<◌, length, IfOk, OnErr, ◌++◌, ◌∷◌, []};
+ghost use Rattle.std.specs.Prelude.{◌≡◌, ◌<◌, ◌≤◌, ◌-◌, length, true, IfOk, IfErr, IfSome, OnErr, IfNone, ◌++◌, ◌∷◌, [], List};
 ghost use Rattle.mb_segment.specs.Seats.{view_in as pass_view};
-ghost use Rattle.mb_segment.specs.Vocabulary.{IsFree, blank};
-ghost use Rattle.mb_channel.specs.Homes.{At, Changes, HasIssued, HasTakenBack, came_back};
+ghost use Rattle.mb_segment.specs.Vocabulary.{HasLeft, IsFree, IsWhole as SegmentIsWhole, blank};
+ghost use Rattle.mb_channel.specs.Homes.{At, Changes, HasIssued, HasTakenBack, IsDone, IsFreed, IsNew, Stands, came_back, out_of};
 ghost use Rattle.mb_channel.specs.declared.home.Home.{Home};
 
-use crate::home::{Home, Homes};
-use mb_segment::{Pass, Segment};
+use crate::home::{Home, Homes, Shared};
+use mb_segment::{Left, Pass, Segment};
 use std::alloc::{AllocError, Global};
+use std::collections::VecDeque;
 use std::sync::Arc;
 
 impl<T: Drop> Home<T> {
     /// A new segment of this many positions, and its hub.
     fn new(alloc: Global, size: u32) -> Result<Home<T>, AllocError>
-        ensures { IfOk result (λ h. came_back h ≡ []) }
+        ensures { IfOk result (λ h. IsNew h) }
     {
         let (segment, hub) = Segment::new(alloc, size)?;
         match Arc::new(alloc, segment) {
-            Ok(segment) => Ok(Home { segment, hub }),
+            Ok(segment) => Ok(Home {
+                segment,
+                hub,
+                out: 0,
+                done: false,
+            }),
             Err(refused) => {
                 drop(refused);
                 Err(AllocError)
@@ -25,66 +31,157 @@ impl<T: Drop> Home<T> {
         }
     }
 
-    /// Takes back a pass of the segment.
-    fn take_back(&mut self, pass: Pass<T>)
+    /// Takes back a pass of the segment, which saw or not that no value can come any more. It tells whether one did.
+    fn take_back(&mut self, pass: Pass<T>, over: bool) -> bool
         requires segment { pass.seat.table_id ≡ self.old.hub.seat.table_id }
         requires free { IsFree pass }
-        ensures { HasTakenBack self.old self.new (pass_view pass) }
+        requires over { over ≡ (pass_view pass).over }
+        requires out { 0 < out_of self.old }
+        ensures back { HasTakenBack self.old self.new (pass_view pass) }
+        ensures done { result ≡ self.new.done }
     {
         self.segment.take_back(&mut self.hub, pass);
+        self.out -= 1;
+        self.done = self.done || over;
+        self.done
     }
 
-    /// Issues a pass of the segment.
-    fn issue(&mut self) -> Pass<T>
-        ensures home { HasIssued self.old self.new }
-        ensures pass { (result.seat.table_id ≡ self.new.hub.seat.table_id)
-            × (pass_view result ≡ blank) × IsFree result }
+    /// Issues a pass of the segment. It is `None` if so many are out that they cannot be counted.
+    fn issue(&mut self) -> Option<(Shared<T>, Pass<T>)>
+        ensures home { IfSome result (λ r. HasIssued self.old self.new r.0 r.1) }
+        ensures pass { IfSome result (λ r. (pass_view r.1 ≡ blank) × IsFree r.1) }
+        ensures none { IfNone result (self.new ≡ self.old) }
     {
-        self.segment.issue(&mut self.hub)
+        let out = self.out.checked_add(1)?;
+        let segment = Arc::try_clone(&self.segment).ok()?;
+        self.out = out;
+        Some((segment, self.segment.issue(&mut self.hub)))
+    }
+
+    /// Ends the segment, of which no pass is out, and gives out what is left there. It comes back if an end still has a
+    /// share of it.
+    pub fn end(self) -> Result<Left<T>, Home<T>>
+        requires back { out_of self ≡ 0 }
+        ensures whole { IfOk result (λ l. (left : List T) × SegmentIsWhole (came_back self) left
+            × HasLeft l left × (IsDone self → left ≡ [])) }
+        ensures shared { IfErr result (λ h. h ≡ self) }
+    {
+        let Home {
+            segment,
+            hub,
+            out,
+            done,
+        } = self;
+        match Arc::try_unwrap(segment) {
+            Ok(segment) => Ok(segment.end(hub)),
+            Err(segment) => Err(Home {
+                segment,
+                hub,
+                out,
+                done,
+            }),
+        }
+    }
+
+    /// Frees a segment that is done and has no pass out. Any other comes back, and so does one of which an end has a
+    /// share.
+    fn free(self) -> Result<(), Home<T>>
+        ensures freed { IfOk result (λ _. IsFreed self) }
+        ensures kept { IfErr result (λ h. h ≡ self) }
+    {
+        if !self.done {
+            return Err(self);
+        }
+        if self.out != 0 {
+            return Err(self);
+        }
+        match self.end() {
+            Ok(left) => {
+                drop(left);
+                Ok(())
+            }
+            Err(home) => Err(home),
+        }
     }
 }
 
 impl<T: Drop> Homes<T> {
     /// No segment.
     pub(crate) fn none(alloc: Global) -> Homes<T>
-        ensures { result.list.items ≡ [] }
+        ensures { (result.list.items ≡ []) × (result.first ≡ 0) }
     {
         Homes {
-            list: Vec::new(alloc),
+            first: 0,
+            list: VecDeque::new(alloc),
         }
     }
 
-    /// The segment at this place takes back a pass of its own.
-    pub(crate) fn take_back(&mut self, at: usize, pass: Pass<T>)
-        requires there { at < length self.old.list.items }
-        requires segment { At self.old.list.items at
-            (λ h. pass.seat.table_id ≡ h.hub.seat.table_id) }
+    /// The segment at this place takes back a pass of its own. It tells whether it is done.
+    pub(crate) fn take_back(&mut self, at: usize, pass: Pass<T>, over: bool) -> bool
+        requires live { self.old.first ≤ at }
+        requires there { at - self.old.first < length self.old.list.items }
+        requires segment { At self.old.list.items (at - self.old.first)
+            (λ h. (pass.seat.table_id ≡ h.hub.seat.table_id) × (0 < out_of h)) }
         requires free { IsFree pass }
-        ensures { Changes self.old.list.items self.new.list.items at
-            (λ h g. HasTakenBack h g (pass_view pass)) }
+        requires over { over ≡ (pass_view pass).over }
+        ensures list { Changes self.old.list.items self.new.list.items (at - self.old.first)
+            (λ h g. HasTakenBack h g (pass_view pass) × (result ≡ g.done)) }
+        ensures first { self.new.first ≡ self.old.first }
     {
-        self.list[at].take_back(pass);
+        self.list[at - self.first].take_back(pass, over)
     }
 
-    /// The segment at this place issues a pass.
-    pub(crate) fn issue(&mut self, at: usize) -> Pass<T>
+    /// The segment at this place of the list issues a pass.
+    pub(crate) fn issue(&mut self, at: usize) -> Option<(Shared<T>, Pass<T>)>
         requires there { at < length self.old.list.items }
-        ensures homes { Changes self.old.list.items self.new.list.items at HasIssued }
-        ensures pass { At self.new.list.items at (λ h. result.seat.table_id ≡ h.hub.seat.table_id)
-            × (pass_view result ≡ blank) × IsFree result }
+        ensures some { IfSome result (λ r. Changes self.old.list.items self.new.list.items at
+            (λ h g. HasIssued h g r.0 r.1) × (pass_view r.1 ≡ blank) × IsFree r.1) }
+        ensures none { IfNone result (self.new.list.items ≡ self.old.list.items) }
+        ensures first { self.new.first ≡ self.old.first }
     {
         self.list[at].issue()
     }
 
     /// One more segment, of this many positions, behind the others.
     pub(crate) fn append(&mut self, alloc: Global, size: u32) -> Result<(), AllocError>
-        ensures more { IfOk result (λ _. (h : Home T) × (came_back h ≡ [])
+        ensures more { IfOk result (λ _. (h : Home T) × IsNew h
             × (self.new.list.items ≡ self.old.list.items ++ h ∷ [])) }
         ensures same { OnErr result (self.new.list.items ≡ self.old.list.items) }
+        ensures first { self.new.first ≡ self.old.first }
     {
         self.list.reserve(1)?;
         let home = Home::new(alloc, size)?;
-        self.list.push_reserved(home);
+        self.list.push_back_reserved(home);
         Ok(())
+    }
+
+    /// Frees the oldest segment, if it is done and nobody has a pass or a share of it.
+    fn free_first(&mut self) -> bool
+        ensures stands { (hs : List (Home T)) → Stands hs self.old → Stands hs self.new }
+        ensures fewer { result ≡ true → length self.new.list.items < length self.old.list.items }
+    {
+        if self.first >= usize::MAX {
+            return false;
+        }
+        let Some(home) = self.list.pop_front() else {
+            return false;
+        };
+        match home.free() {
+            Ok(()) => {
+                self.first += 1;
+                true
+            }
+            Err(home) => {
+                self.list.push_front_reserved(home);
+                false
+            }
+        }
+    }
+
+    /// Frees the oldest segments, while they are done and nobody has a pass or a share of them.
+    pub(crate) fn sweep(&mut self)
+        ensures { (hs : List (Home T)) → Stands hs self.old → Stands hs self.new }
+    {
+        while self.free_first() {}
     }
 }

@@ -2,7 +2,7 @@
 use crate::home::Homes;
 use crate::view::Knows;
 use atomic_table::{Join, Play, Split, TableRule};
-use std::marker::PhantomData;
+use std::marker::{Brand, PhantomData};
 
 pub struct ListRule;
 
@@ -22,53 +22,40 @@ impl<T: Drop> Play<Homes<T>, Knows<T>> for TakesLock {
     ghost then = { takes_lock };
 }
 
-pub struct GivesLock;
+/// What the step that gives the lock back does to the view. A proof picks it.
+pub trait Change<T> {
+    ghost use Rattle.mb_channel.specs.declared.view.Knows.{Knows};
 
-impl<T: Drop> Play<Homes<T>, Knows<T>> for GivesLock {
+    ghost of: { Knows T → Knows T };
+}
+
+// A call names `Brand`, and the caller's `Invariants.antt` picks the member. Without a pick the view stays.
+impl<T> Change<T> for Brand {
+    ghost of = { λ v. v };
+}
+
+/// What an end did in the segment that it leaves. A proof picks it.
+pub trait Stay<T> {
+    ghost use Rattle.mb_segment.specs.declared.view.Account.{Account};
+
+    ghost account: { Account T };
+}
+
+// This one is not used.
+impl<T> Stay<T> for Brand {
+    ghost use Rattle.mb_segment.specs.Vocabulary.{nothing_done};
+
+    ghost account = { nothing_done };
+}
+
+pub struct GivesLock<F> {
+    of: PhantomData<F>,
+}
+
+impl<T: Drop, F: Change<T>> Play<Homes<T>, Knows<T>> for GivesLock<F> {
     ghost use Rattle.mb_channel.specs.Homes.{gives_lock};
 
-    ghost then = { gives_lock (λ v. v) };
-}
-
-pub struct Leaves;
-
-impl<T: Drop> Play<Homes<T>, Knows<T>> for Leaves {
-    ghost use Rattle.mb_channel.specs.Homes.{leaves};
-
-    ghost then = { leaves };
-}
-
-/// To send alone, or to receive too.
-pub trait Side {
-    ghost use Rattle.std.specs.Prelude.{Bool};
-
-    ghost takes: { Bool };
-}
-
-pub struct Sends;
-
-impl Side for Sends {
-    ghost use Rattle.std.specs.Prelude.{false};
-
-    ghost takes = { false };
-}
-
-pub struct Receives;
-
-impl Side for Receives {
-    ghost use Rattle.std.specs.Prelude.{true};
-
-    ghost takes = { true };
-}
-
-pub struct Comes<B> {
-    of: PhantomData<B>,
-}
-
-impl<T: Drop, B: Side> Play<Homes<T>, Knows<T>> for Comes<B> {
-    ghost use Rattle.mb_channel.specs.Homes.{comes};
-
-    ghost then = { comes B.takes };
+    ghost then = { gives_lock F.of };
 }
 
 pub struct GetsNumber;

@@ -1,21 +1,29 @@
 //! Samples of the theorem's definitions: what they admit, and what only looks right. The functions compute nothing:
 //! their contracts are the samples.
-ghost use Rattle.std.specs.Prelude.{[], ◌∷◌, true, false};
+ghost use Rattle.std.specs.Prelude.{ℕ, [], ◌∷◌, ◌≡◌, true, false};
 ghost use Rattle.mb_channel.specs.ChannelSamples.{forgotten, one_sender, one_taken, overtaken, overtaken_life, swapped_life};
-ghost use Rattle.mb_channel.specs.ChannelSamples.{taken_twice, two_and_two, two_segments, unheeded, unheeded_life};
+ghost use Rattle.mb_channel.specs.ChannelSamples.{taken_twice, two_and_two, two_segments, two_taken, unheeded, unheeded_life, unheeded_take};
 ghost use Rattle.mb_channel.specs.ChannelSamples.{ended, refused_beside_a_receiver, told_beside_a_sender, told_too_soon, value_behind};
 ghost use Rattle.mb_channel.specs.ChannelSamples.{looked_for, overslept, slept_past_the_end, slept_through_the_end, token_elsewhere};
 ghost use Rattle.mb_channel.specs.ChannelSamples.{sleepers, two_forsaken, two_wait};
 ghost use Rattle.mb_channel.specs.ChannelTheorem.{EachBounded, EachMoment, WholeLife};
+ghost use Rattle.mb_channel.specs.ChannelSamples.{call, claim, entry, history, receiver, sender};
+ghost use Rattle.mb_channel.specs.LifeSamples.{TellsOf, by_passes, ends_for_passes, last_end, one_got, stay, two_ends, two_sent, two_stays};
+ghost use Rattle.mb_channel.specs.Homes.{IsDone, came_back};
+ghost use Rattle.mb_channel.specs.Types.{Home};
+ghost use Rattle.mb_channel.specs.Segments.{AreLogs, EachKeeps, InTurn, KeepsEnd, TakenInTurn};
+ghost use Rattle.mb_channel.specs.Stays.{AllBy, AllTo, AreApart, DidSo, Told, by_ends};
+ghost use Rattle.mb_channel.specs.Lives.{DoneInTurn, HaveEnded, end_in};
 
 /// Points 1 to 3. A life over two segments is admitted. Refused: values of one sender that stand in another order, a
-/// value that stands before one that its sender knew of, a value that two received, one that overtook another, one that
-/// its taker did not receive, and one that is left and not given back.
+/// value that stands before one that its sender knew of, a value that two received, a take before one that its receiver
+/// knew of, a value that overtook another, one that its taker did not receive, and one that is left and not given back.
 pub fn sample_lives()
     ensures admitted { WholeLife two_segments two_and_two (11 ∷ []) }
     ensures swapped { WholeLife swapped_life one_sender (11 ∷ 10 ∷ []) → ⊥ }
     ensures unheeded { WholeLife unheeded_life unheeded (20 ∷ 10 ∷ []) → ⊥ }
     ensures twice { WholeLife one_taken taken_twice [] → ⊥ }
+    ensures unheeded_take { WholeLife two_taken unheeded_take [] → ⊥ }
     ensures overtaken { WholeLife overtaken_life overtaken (10 ∷ []) → ⊥ }
     ensures forgotten { WholeLife one_taken forgotten [] → ⊥ }
     ensures lost { WholeLife two_segments two_and_two [] → ⊥ }
@@ -50,4 +58,46 @@ pub fn sample_bounds()
     ensures not_full { EachBounded 3 0 (sleepers 0 0 0 0) true two_wait → ⊥ }
     ensures beside_room { EachBounded 3 0 (sleepers 1 0 0 0) false two_wait → ⊥ }
     ensures forsaken { EachBounded 2 0 (sleepers 1 0 0 0) false two_forsaken → ⊥ }
+{}
+
+/// What laws ask of segments. Admitted: what the moments and lives above keep. Refused: a sleeper beside a value, a
+/// segment visited past a value, "closed" told beside one, a value that overtook another, and a take that no end logs.
+pub fn sample_segments()
+    ensures kept { EachKeeps looked_for.segments × InTurn looked_for.segments × KeepsEnd ended }
+    ensures overslept { EachKeeps overslept.segments → ⊥ }
+    ensures behind { InTurn value_behind.segments → ⊥ }
+    ensures told { KeepsEnd told_too_soon → ⊥ }
+    ensures turn { TakenInTurn two_segments × AreLogs two_segments two_and_two (11 ∷ []) }
+    ensures overtaken { TakenInTurn overtaken_life → ⊥ }
+    ensures unlogged { AreLogs one_taken forgotten [] → ⊥ }
+{}
+
+/// A segment tells what two passes did, and so what two ends did. Refused: ends that go by the numbers of passes, an end
+/// with two passes, a pass that did something else, and one that nobody had.
+pub fn sample_stays()
+    ensures told { TellsOf two_ends (11 ∷ []) }
+    ensures named { (t : Told ℕ) → t.history ≡ by_passes → t.stays ≡ two_stays
+        → by_ends t ≡ history (claim 1 10 0 ∷ []) (entry 1 11 ∷ []) }
+    ensures passes { TellsOf ends_for_passes (11 ∷ []) → ⊥ }
+    ensures twice { AreApart (stay 0 1 [] [] ∷ stay 1 1 [] [] ∷ []) → ⊥ }
+    ensures otherwise { DidSo by_passes (stay 1 0 [] [] ∷ []) → ⊥ }
+    ensures sender { AllBy (stay 1 0 [] [] ∷ []) (entry 0 10 ∷ []) → ⊥ }
+    ensures receiver { AllTo (stay 0 1 [] [] ∷ []) (claim 0 10 1 ∷ []) → ⊥ }
+{}
+
+/// What two ends did, read off their visits. Refused: a value that is left where none can come, or that nobody sent; a
+/// segment that did not end; and one where no value can come, behind one where some can.
+pub fn sample_visits()
+    ensures sends { (h g : Home ℕ) → came_back h ≡ one_got ∷ two_sent ∷ []
+        → end_in last_end (h ∷ g ∷ []) 0
+        ≡ sender (call 0 10 0 ∷ call 1 11 1 ∷ call 2 12 2 ∷ []) }
+    ensures takes { (h g : Home ℕ) → came_back h ≡ one_got ∷ two_sent ∷ []
+        → end_in last_end (h ∷ g ∷ []) 1 ≡ receiver (call 0 10 0 ∷ []) }
+    ensures ended { (h : Home ℕ) → came_back h ≡ [] → HaveEnded (h ∷ []) ([] ∷ []) }
+    ensures done { (h : Home ℕ) → IsDone h → HaveEnded (h ∷ []) ((11 ∷ []) ∷ []) → ⊥ }
+    ensures unsent { (h : Home ℕ) → came_back h ≡ [] → HaveEnded (h ∷ []) ((11 ∷ []) ∷ []) → ⊥ }
+    ensures forgotten { (h : Home ℕ) → HaveEnded (h ∷ []) [] → ⊥ }
+    ensures in_turn { (h g i : Home ℕ) → IsDone h → DoneInTurn (h ∷ g ∷ i ∷ []) }
+    ensures turned { (h g i : Home ℕ) → (IsDone h → ⊥) → IsDone g
+        → DoneInTurn (h ∷ g ∷ i ∷ []) → ⊥ }
 {}

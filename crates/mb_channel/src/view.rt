@@ -1,9 +1,7 @@
 //! What an end knows. No value of it is made.
-use crate::home::Home;
-use mb_segment::{Account, Segment};
-use std::alloc::Global;
+use crate::home::{Home, Shared};
+use mb_segment::Account;
 use std::collections::LinkedList;
-use std::sync::Arc;
 
 /// What an end did in a segment that it left.
 pub struct Visit<T> {
@@ -28,12 +26,12 @@ pub struct Knows<T: Drop> {
     /// Whether it has a pass of a segment, and of which.
     pub inside: bool,
     pub at: u64,
-    pub place: Option<Arc<Segment<T, Global>, Global>>,
+    pub place: Option<Shared<T>>,
     /// Whether it may receive there.
     pub takes: bool,
     /// The ends that were given back to it.
     pub ended: LinkedList<Past<T>>,
-    /// Whether it has the lock, and the segments that it found.
+    /// Whether it has the lock, and all segments that there ever were.
     pub holds: bool,
     pub before: LinkedList<Home<T>>,
 }

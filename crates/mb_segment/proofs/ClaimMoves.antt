@@ -7,7 +7,7 @@ use Rattle.mb_segment.specs.Vocabulary.{Claim, Duty, Entry, Half, HalfFits, HasH
 use Rattle.mb_segment.specs.Vocabulary.{Keeps, Member, Nothing, Reads, Sat, Taken, Undrawn, View, Waiting}
 use Rattle.mb_segment.specs.Vocabulary.{Writes, all_entries, claiming, done, drawn, entries, free}
 use Rattle.mb_segment.specs.Vocabulary.{got_by, looked, spot, spots_by, taken, took, with_duty}
-use Rattle.mb_segment.proofs.Spots.{below_length, entries_append, entry_of, size_set, snoc_at, to_other}
+use Rattle.mb_segment.proofs.Spots.{below_length, entries_append, entry_of, heard_claim, size_set, snoc_at, to_other}
 use Rattle.mb_segment.proofs.Spots.{to_own}
 use Rattle.mb_segment.proofs.Halves.{half_else, half_here, match_kept, no_hub, no_reads, no_spent, no_writes}
 use Rattle.mb_segment.proofs.Kept.{Goes, Next, Same, St, at1, exchanges, moved}
@@ -21,7 +21,7 @@ module _ {T : Type 0} (s : St T) (k : Keeps s) (n : ℕ) (v w : View T) (at : ge
   claim = record { entry = b; to = n }
 
   abbrev claimed : History T
-  claimed = record { claims = k.history.claims ++ claim ∷ []; rest = bs }
+  claimed = record k.history { claims = k.history.claims ++ claim ∷ []; rest = bs }
 
   abbrev lent : Homes T
   lent = slice_set s.homes old none
@@ -114,7 +114,7 @@ module _ {T : Type 0} (s : St T) (k : Keeps s) (n : ℕ) (v w : View T) (at : ge
   )
 
   claim_same : Same k.history claimed n
-  claim_same j ne = (ap (spots_by j 0) all, to_other j 0 k.history.claims claim (λ q. ne (sym q)))
+  claim_same j ne = (ap (spots_by j 0) all, to_other j 0 k.history.claims claim (λ q. ne (sym q)), refl)
 
   claim_got : got_by n claimed ≡ got_by n k.history ++ spot old b.value ∷ []
   claim_got = to_own n 0 b.value k.history.claims claim old (omega arith) refl refl
@@ -182,6 +182,7 @@ module _ {T : Type 0} where
           drawn_ = omega arith;
           more = omega arith;
           cut_ = omega arith;
+          cutter = k.cutter;
           marks = λ j ne. ne;
           undrawn = claim_undrawn s k n v w at old now_ r.1 idle b bs first refl;
           waits = claim_waits s k n v w at old now_ r.1 idle b bs first refl;
@@ -191,7 +192,7 @@ module _ {T : Type 0} where
           role = refl;
           out_ = refl;
           same = same_;
-          idle = let o = same_ k.hub (λ q. mem.no_hub (sym q)) in (o.0 ∙ k.idle.0, o.1 ∙ k.idle.1);
+          idle = let o = same_ k.hub (λ q. mem.no_hub (sym q)) in (o.0 ∙ k.idle.0, o.1 ∙ k.idle.1, k.idle.2);
           roll = λ as_ m. match_kept k.history g k.roll as_
               (λ j in_. same_ j (λ q. mem.not_back (subst (λ (i : ℕ). In i k.roll) q in_))) m;
           halves = λ j half ne hf. claim_halves s k n v w at old now_ r.1 idle b bs first refl j half hf;
@@ -200,6 +201,7 @@ module _ {T : Type 0} where
               sent = mem.sent ∙ sym (ap (spots_by n 0) al);
               got = ap (λ l. l ++ spot old b.value ∷ []) mem.got ∙ sym
                   (claim_got s k n v w at old now_ r.1 idle b bs first refl);
+              cut = mem.cut;
               no_hub = mem.no_hub;
               not_back = mem.not_back;
             };
@@ -210,6 +212,9 @@ module _ {T : Type 0} where
             ripe = fit.ripe;
             full = λ on. sd ∙ fit.full on;
             cut_ = fit.cut_;
+            empty = let e = fit.empty in omega arith;
+            heard = heard_claim k.history g old b.value v (omega arith) (omega arith) (omega arith) (omega arith)
+                fit.heard;
             over = λ on. absurd (let y : length k.history.rest ≡ 0 = ap length (fit.over on).1 in omega arith);
           };
           laws = λ L O C L' O' C' l o c le q h. let lk = look.2 in let lc = look.3 in let la = look.1 in (

@@ -1,19 +1,20 @@
 -- The steps on the number drawn keep the rule: a draw, a cut, and the look before a draw.
 use Rattle.mb_segment.proofs.Base.{Allows, List, None, Option, Some, [], ap, append_assoc, arith, at_last}
-use Rattle.mb_segment.proofs.Base.{at_longer, carried_after, dec_lt, either, get_elem?, inl, inr, keeps}
+use Rattle.mb_segment.proofs.Base.{at_longer, carried_after, dec_lt, either, eq-eqb, get_elem?, inl}
+use Rattle.mb_segment.proofs.Base.{inr, keeps, ne_eqb, stepped}
 use Rattle.mb_segment.proofs.Base.{length, length-append, none, refl, set_else, slice_index, slice_set}
 use Rattle.mb_segment.proofs.Base.{some, step, subst, sym, takes, true, ℕ, ⊎_elim, ◌*◌, ◌++◌, ◌+◌, ◌-◌, ◌<◌}
 use Rattle.mb_segment.proofs.Base.{◌==◌, ◌∙◌, ◌∷◌, ◌≡◌, ◌≢◌, ◌≤◌, ◌⊎◌}
 use Rattle.mb_segment.specs.Vocabulary.{Duty, Entry, Half, HalfFits, HasHalf, History, Homes, In, Keeps}
 use Rattle.mb_segment.specs.Vocabulary.{Member, Nothing, Reads, Sat, Taken, Undrawn, View, Waiting, Writes}
-use Rattle.mb_segment.specs.Vocabulary.{all_entries, asking, drawing, drawing_picked, drawn, drew}
-use Rattle.mb_segment.specs.Vocabulary.{entries, exchanging, owes_all, owes_wake, sees_cut}
+use Rattle.mb_segment.specs.Vocabulary.{all_entries, asking, did_cut, drawing, drawing_picked, drawn, drew}
+use Rattle.mb_segment.specs.Vocabulary.{entries, exchanging, owes_all, owes_wake, seeing_cut, sees_cut}
 use Rattle.mb_segment.specs.Vocabulary.{sees_full, sent_by, spot, spots_by, taken, with_duty}
-use Rattle.mb_segment.proofs.Spots.{all_length, below_length, by_other, by_own, same_some, size_set, snoc_at}
+use Rattle.mb_segment.proofs.Spots.{all_length, below_length, by_other, by_own, heard_draw, same_some, size_set, snoc_at}
 use Rattle.mb_segment.proofs.Halves.{free_open, free_shut, half_else, half_here, match_kept, no_hub, no_reads}
-use Rattle.mb_segment.proofs.Halves.{no_spent, no_writes}
-use Rattle.mb_segment.proofs.Kept.{Goes, Next, Same, St, at0, at_rest, exchanges, loaded, moved, now, refit}
-use Rattle.mb_segment.proofs.Kept.{settled, sighted, stays, steady}
+use Rattle.mb_segment.proofs.Halves.{no_spent, no_writes, uncut}
+use Rattle.mb_segment.proofs.Kept.{Goes, Next, Same, St, at0, at_rest, exchanges, loaded, moved, now}
+use Rattle.mb_segment.proofs.Kept.{settled, sighted, stays, taken_stay, waits_stay}
 
 module _ {T : Type 0} (s : St T) (k : Keeps s) (n : ℕ) (v : View T) (at : get_elem? s.views n ≡ some v) (x : T)
     (old : ℕ)
@@ -23,7 +24,7 @@ module _ {T : Type 0} (s : St T) (k : Keeps s) (n : ℕ) (v : View T) (at : get_
   entry = record { by = n; value = x }
 
   abbrev longer : History T
-  longer = record { claims = k.history.claims; rest = k.history.rest ++ entry ∷ [] }
+  longer = record k.history { rest = k.history.rest ++ entry ∷ [] }
 
   abbrev lent : Homes T
   lent = slice_set s.homes old none
@@ -104,7 +105,8 @@ module _ {T : Type 0} (s : St T) (k : Keeps s) (n : ℕ) (v : View T) (at : get_
   )
 
   draw_same : Same k.history longer n
-  draw_same j ne = (ap (spots_by j 0) long ∙ by_other j 0 (all_entries k.history) entry (λ q. ne (sym q)), refl)
+  draw_same j ne =
+      (ap (spots_by j 0) long ∙ by_other j 0 (all_entries k.history) entry (λ q. ne (sym q)), refl, refl)
 
   draw_sent : sent_by n longer ≡ sent_by n k.history ++ spot old x ∷ []
   draw_sent = ap (spots_by n 0) long ∙ by_own n 0 x (all_entries k.history) entry old
@@ -164,6 +166,7 @@ module _ {T : Type 0} where
           drawn_ = omega arith;
           more = omega arith;
           cut_ = omega arith;
+          cutter = k.cutter;
           marks = λ j ne. ne;
           undrawn = draw_undrawn s k n v at x old now_ fits_ idle w refl;
           waits = draw_waits s k n v at x old now_ fits_ idle w refl;
@@ -173,7 +176,7 @@ module _ {T : Type 0} where
           role = refl;
           out_ = refl;
           same = same_;
-          idle = let o = same_ k.hub (λ q. mem.no_hub (sym q)) in (o.0 ∙ k.idle.0, o.1 ∙ k.idle.1);
+          idle = let o = same_ k.hub (λ q. mem.no_hub (sym q)) in (o.0 ∙ k.idle.0, o.1 ∙ k.idle.1, k.idle.2);
           roll = λ as_ m. match_kept h g k.roll as_ (λ j in_. same_ j
               (λ q. mem.not_back (subst (λ (i : ℕ). In i k.roll) q in_))) m;
           halves = λ j half ne hf. draw_halves s k n v at x old now_ fits_ idle w refl j half hf;
@@ -182,6 +185,7 @@ module _ {T : Type 0} where
               sent = ap (λ l. l ++ spot old x ∷ []) mem.sent ∙ sym
                   (draw_sent s k n v at x old now_ fits_ idle w refl);
               got = mem.got;
+              cut = mem.cut;
               no_hub = mem.no_hub;
               not_back = mem.not_back;
             };
@@ -192,6 +196,8 @@ module _ {T : Type 0} where
             ripe = fit.ripe;
             full = λ on. absurd (let y = fit.full on in omega arith);
             cut_ = fit.cut_;
+            empty = fit.empty;
+            heard = heard_draw h g old x v (omega arith) (omega arith) (omega arith) fit.heard;
             over = λ on. absurd (let y = (fit.over on).0 in omega arith);
           };
           laws = λ L O C L' O' C' l o c le q h'. (
@@ -246,43 +252,78 @@ module _ {T : Type 0} where
       idle (omega arith) is)
 
   -- ---- a cut, and a look before a draw
-  pub cuts : (slots n : ℕ) (me : Sat T) (old new : ℕ) → old < 9223372036854775808 → new ≡ old + 9223372036854775808
+  half_cut : (h : History T) (c : Option ℕ) (states : List ℕ) (j : ℕ) (half : Half T) → HalfFits h states j half
+      → HalfFits record h { cutter = c } states j half
+  half_cut h c states j Nothing f = tt
+  half_cut h c states j (Writes p) f = f
+  half_cut h c states j (Reads p) f = f
+
+  pub cuts : (slots n : ℕ) (me : Sat T) (old new : ℕ) → old < 9223372036854775808 → me.0.role ≡ Member
+      → new ≡ old + 9223372036854775808
       → Allows Keeps slots n me 0 (λ r. either (r == old) new r)
-      (exchanging (with_duty owes_all) (step slots 0 old new none) me)
-  cuts slots n me old new open_ is = exchanges 0 (exchanging (with_duty owes_all) (step slots 0 old new none) me)
-      slots n me old new
+      (exchanging (λ v. with_duty owes_all (did_cut v)) (step slots 0 old new none) me)
+  cuts slots n me old new open_ role is =
+      exchanges 0 (exchanging (λ v. with_duty owes_all (did_cut v)) (step slots 0 old new none) me) slots n me old new
       (λ s k homes at e.
       let v = me.0 in
-      let w = with_duty owes_all v in
-      let fit = refit k.history k.states k.cut k.hub k.roll n v w (refl, refl, refl, refl, refl, refl)
-      (k.fits n v at) in
+      let w = with_duty owes_all (did_cut v) in
+      let h = k.history in
+      let fit = k.fits n v at in
+      let mem = fit.member role in
       let now_ = at0 s k in
-      let shut_ = free_shut (k.cut + 1) (length k.states - drawn k.history) (omega arith) in (
+      let not_cut : k.cut ≡ 0 = omega arith in
+      let shut_ = free_shut (k.cut + 1) (length k.states - drawn h) (omega arith) in
+      let g : History T = record h { cutter = Some n } in
+      let same_ : Same h g n = λ j ne.
+      (refl, refl, ne_eqb n j (λ q. ne (sym q)) ∙ sym (uncut h.cutter j (sym k.cutter ∙ not_cut))) in
+      let x' : Next T = record (now s k) { history = g; words = slice_set s.words 0 new; cut = k.cut + 1 } in (
         w,
         keeps,
         tt,
-        steady s k n v w record (now s k) { words = slice_set s.words 0 new; cut = k.cut + 1 } at record {
+        moved s k n v w x' at record {
           words = ap (λ l. slice_set l 0 new) k.words
-              ∙ ap (λ r. r ∷ taken k.history ∷ (k.tokens + 4294967296 * k.waiting) ∷ k.states) (omega arith);
+              ∙ ap (λ r. r ∷ taken h ∷ (k.tokens + 4294967296 * k.waiting) ∷ k.states) (omega arith);
           narrow = k.narrow;
+          sized = k.sized;
+          as_many = refl;
+          within = k.within;
+          drawn_ = omega arith;
+          more = omega arith;
           cut_ = omega arith;
+          cutter = omega arith;
+          marks = λ j ne. ne;
+          undrawn = k.undrawn;
+          waits = waits_stay s k n v w at refl;
+          taken_ = taken_stay s k n v w at refl;
           counted = omega arith;
-          over = λ _. shut_;
+          over = λ _ none_there. (shut_, none_there);
           role = refl;
           out_ = refl;
-          half = refl;
+          same = same_;
+          idle = (k.idle.0, k.idle.1, (same_ k.hub (λ q. mem.no_hub (sym q))).2 ∙ k.idle.2);
+          roll = λ as_ m. match_kept h g k.roll as_ (λ j in_. same_ j
+              (λ q. mem.not_back (subst (λ (i : ℕ). In i k.roll) q in_))) m;
+          halves = λ j half ne f. half_cut h (Some n) k.states j half f;
           own = record {
-            member = fit.member;
-            hub_ = fit.hub_;
-            back = fit.back;
-            half = fit.half;
+            member = λ _. record {
+              sent = mem.sent;
+              got = mem.got;
+              cut = sym (eq-eqb n n refl);
+              no_hub = mem.no_hub;
+              not_back = mem.not_back;
+            };
+            hub_ = λ r. absurd (no_hub v.role role r);
+            back = λ r. absurd (no_spent v.role role r);
+            half = half_cut h (Some n) k.states n v.half fit.half;
             low = fit.low;
             ripe = fit.ripe;
             full = fit.full;
             cut_ = λ _. omega arith;
+            empty = fit.empty;
+            heard = fit.heard;
             over = λ on. (shut_, (fit.over on).1);
           };
-          laws = λ L O C L' O' C' l o c le q h. (
+          laws = λ L O C L' O' C' l o c le q h'. (
             ⊎_elim (λ y. inl (omega arith)) (λ y. inr (omega arith)) q,
             inr (omega arith),
           );
@@ -291,21 +332,46 @@ module _ {T : Type 0} where
       ))
       (λ r ne. ((λ e. absurd (ne e)), λ _. (refl, refl)))
 
+  -- a pass that finds the top bit knows that the segment is cut
+  cut_seen : (n : ℕ) (me : Sat T) (s : St T) (k : Keeps s) → get_elem? s.views n ≡ some me.0
+      → 9223372036854775808 ≤ slice_index s.words 0
+      → Keeps (stepped s 0 (slice_index s.words 0) n me.1 (sees_cut me.0) keeps)
+  cut_seen n me s k at high =
+      let now_ = at0 s k in let small = k.small in let in_ = k.within in
+      let fit = k.fits n me.0 at in
+      loaded s 0 n me.1 (sees_cut me.0) (settled s k n me.0 (sees_cut me.0) at refl refl refl refl
+      (sighted k.history k.states k.cut k.hub k.roll n me.0 record me.0.sight { cut = true } fit fit.low fit.ripe
+      fit.full (λ _. omega arith) fit.empty)
+      (at_rest s k me.0 (sees_cut me.0) refl))
+
+  sees_cut_at : (slots n : ℕ) (me : Sat T) (s : St T) (k : Keeps s) → get_elem? s.views n ≡ some me.0
+      → Dec (slice_index s.words 0 < 9223372036854775808)
+      → Goes s 0 n me (seeing_cut (step slots 0 0 0 none) me) (slice_index s.words 0)
+  sees_cut_at slots n me s k at (yes low) =
+      (me.0, keeps, tt, stays s k 0 n me.0 at me.1, ((λ le. absurd (omega arith)), λ _. (refl, refl)))
+  sees_cut_at slots n me s k at (no high) = (
+    sees_cut me.0,
+    keeps,
+    tt,
+    cut_seen n me s k at (omega arith),
+    ((λ _. (refl, refl)), λ lt. absurd (high lt)),
+  )
+
+  pub sees_cuts : (slots n : ℕ) (me : Sat T)
+      → Allows Keeps slots n me 0 (λ r. r) (seeing_cut (step slots 0 0 0 none) me)
+  sees_cuts slots n me s k homes at small =
+      sees_cut_at slots n me s k at (dec_lt (slice_index s.words 0) 9223372036854775808)
+
   asks_at : (slots n : ℕ) (me : Sat T) (s : St T) (k : Keeps s) → length s.homes ≡ slots → get_elem? s.views n
       ≡ some me.0
       → Dec (slice_index s.words 0 < 9223372036854775808) → Dec (slice_index s.words 0 < slots)
       → Goes s 0 n me (asking (step slots 0 0 0 none) me) (slice_index s.words 0)
   asks_at slots n me s k homes at (no high) small_ =
-      let now_ = at0 s k in let many = k.sized in let small = k.small in let in_ = k.within in
-      let fit = k.fits n me.0 at in (
+      let many = k.sized in let small = k.small in (
         sees_cut me.0,
         keeps,
         tt,
-        loaded s 0 n me.1 (sees_cut me.0) (settled s k n me.0 (sees_cut me.0) at refl refl refl refl
-            (sighted k.history k.states k.cut k.hub k.roll n me.0 record me.0.sight { cut = true } fit fit.low
-            fit.ripe fit.full
-            (λ _. omega arith))
-            (at_rest s k me.0 (sees_cut me.0) refl)),
+        cut_seen n me s k at (omega arith),
         ((λ _. (refl, refl)), (λ lt _. absurd (high lt)), λ lt. absurd (omega arith)),
       )
   asks_at slots n me s k homes at (yes low) (yes less) = (
@@ -324,7 +390,7 @@ module _ {T : Type 0} where
         loaded s 0 n me.1 (sees_full me.0) (settled s k n me.0 (sees_full me.0) at refl refl refl refl
             (sighted k.history k.states k.cut k.hub k.roll n me.0 record me.0.sight { full = true } fit fit.low
             fit.ripe
-            (λ _. omega arith) fit.cut_)
+            (λ _. omega arith) fit.cut_ fit.empty)
             (at_rest s k me.0 (sees_full me.0) refl)),
         ((λ le. absurd (omega arith)), (λ _ _. (refl, refl)), λ lt. absurd (all lt)),
       )

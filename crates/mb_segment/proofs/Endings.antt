@@ -1,56 +1,22 @@
 -- The end of a segment: with all passes back, its last state tells the whole history.
-use Rattle.mb_segment.proofs.Base.{Bool, List, Option, Some, [], ap, arith, eq-eqb, get_elem?, if◌then◌else◌}
-use Rattle.mb_segment.proofs.Base.{length, ne_eqb, refl, set_else, slice_index, slice_set, some}
-use Rattle.mb_segment.proofs.Base.{some-injective, some-ne-none, subst, suc, sym, true, zero, ℕ, ℕ_discrete}
-use Rattle.mb_segment.proofs.Base.{⊎_elim, ◌%◌, ◌*◌, ◌++◌, ◌+◌, ◌<◌, ◌∙◌, ◌∷◌, ◌≡◌, ◌≢◌, ◌≤◌}
+use Rattle.mb_segment.proofs.Base.{List, Option, Some, [], ap, arith, get_elem?}
+use Rattle.mb_segment.proofs.Base.{length, refl, set_else, slice_index, slice_set, some}
+use Rattle.mb_segment.proofs.Base.{some-injective, some-ne-none, subst, suc, sym, true, zero, ℕ}
+use Rattle.mb_segment.proofs.Base.{⊎_elim, ◌%◌, ◌*◌, ◌++◌, ◌+◌, ◌<◌, ◌∙◌, ◌∷◌, ◌≡◌, ◌≤◌}
 use Rattle.mb_segment.specs.Vocabulary.{Claim, Entry, Half, HasHalf, In, IsWhole, Issuer, Keeps, Member}
-use Rattle.mb_segment.specs.Vocabulary.{Nothing, Role, Spent, Stand, View, Writes, all_entries, drawn}
-use Rattle.mb_segment.specs.Vocabulary.{entries, member, one_if_member, spot, spots_by, spots_to, taken}
+use Rattle.mb_segment.specs.Vocabulary.{Nothing, Role, Spent, Stand, View, Writes, drawn}
+use Rattle.mb_segment.specs.Vocabulary.{entries, member, one_if_member, spot, taken}
 use Rattle.mb_segment.specs.Vocabulary.{values}
 use Rattle.mb_segment.proofs.Totals.{below_total, some_view}
 use Rattle.mb_segment.proofs.Spots.{index_at}
 use Rattle.mb_segment.proofs.Halves.{no_writes}
 use Rattle.mb_segment.proofs.Kept.{St, at0, at1}
 use Rattle.mb_segment.proofs.PassMoves.{out_of_hub}
+use Rattle.mb_segment.proofs.Places.{closer, drawer, taker}
 use Rattle.std.specs.Prelude.{slice_index_or}
 use Rattle.atomic_table.specs.Table.{Final, Seen}
 
-cons_no_nil : {A : Type 0} (x : A) (xs : List A) → x ∷ xs ≡ [] → ⊥
-cons_no_nil x xs e = let q : suc (length xs) ≡ 0 = ap length e in omega arith
-
 module _ {T : Type 0} where
-  -- who has an entry drew something
-  drew_some : (n p m : ℕ) (es : List (Entry T)) (e : Entry T) → get_elem? es m ≡ some e → spots_by n p es ≡ []
-      → e.by ≢ n
-  drew_some n p m [] e at none_ = absurd (some-ne-none e (sym at))
-  drew_some n p m (d ∷ ds) e at none_ = go (λ i at_ n_. drew_some n (suc p) i ds e at_ n_) (ℕ_discrete d.by n) m at
-    where
-      go : ((i : ℕ) → get_elem? ds i ≡ some e → spots_by n (suc p) ds ≡ [] → e.by ≢ n) → Dec (d.by ≡ n) → (i : ℕ)
-          → get_elem? (d ∷ ds) i ≡ some e → e.by ≢ n
-      go later (yes is) i at_ = absurd (cons_no_nil (spot p d.value) (spots_by n (suc p) ds)
-          (subst (λ (b : Bool). (if b then spot p d.value ∷ spots_by n (suc p) ds else spots_by n (suc p) ds)
-          ≡ []) (eq-eqb d.by n is) none_))
-      go later (no ne) zero at_ = λ q. ne (ap (λ (y : Entry T). y.by) (some-injective d e at_) ∙ q)
-      go later (no ne) (suc i) at_ = later i at_
-          (subst (λ (b : Bool). (if b then spot p d.value ∷ spots_by n (suc p) ds else spots_by n (suc p) ds)
-          ≡ []) (ne_eqb d.by n ne) none_)
-
-  -- who has a claim claimed something
-  took_some : (n p m : ℕ) (cs : List (Claim T)) (c : Claim T) → get_elem? cs m ≡ some c → spots_to n p cs ≡ []
-      → c.to ≢ n
-  took_some n p m [] c at none_ = absurd (some-ne-none c (sym at))
-  took_some n p m (d ∷ ds) c at none_ = go (λ i at_ n_. took_some n (suc p) i ds c at_ n_) (ℕ_discrete d.to n) m at
-    where
-      go : ((i : ℕ) → get_elem? ds i ≡ some c → spots_to n (suc p) ds ≡ [] → c.to ≢ n) → Dec (d.to ≡ n) → (i : ℕ)
-          → get_elem? (d ∷ ds) i ≡ some c → c.to ≢ n
-      go later (yes is) i at_ = absurd (cons_no_nil (spot p d.entry.value) (spots_to n (suc p) ds)
-          (subst (λ (b : Bool). (if b then spot p d.entry.value ∷ spots_to n (suc p) ds else spots_to n
-          (suc p) ds) ≡ []) (eq-eqb d.to n is) none_))
-      go later (no ne) zero at_ = λ q. ne (ap (λ (y : Claim T). y.to) (some-injective d c at_) ∙ q)
-      go later (no ne) (suc i) at_ = later i at_
-          (subst (λ (b : Bool). (if b then spot p d.entry.value ∷ spots_to n (suc p) ds else spots_to n
-          (suc p) ds) ≡ []) (ne_eqb d.to n ne) none_)
-
   rest_at : (cs : List (Claim T)) (es : List (Entry T)) (i : ℕ) (e : Entry T) → get_elem? es i ≡ some e
       → get_elem? (entries cs ++ es) (length cs + i) ≡ some e
   rest_at [] es i e at = let q : i ≡ 0 + i = omega arith in subst (λ (j : ℕ). get_elem? es j ≡ some e) q at
@@ -110,13 +76,11 @@ module _ {T : Type 0} where
       numbers = k.roll;
       apart = k.apart;
       accounts_ = ((k.fits n v at).hub_ role).ends;
-      senders = λ i e e_at. in_roll e.by
-          (λ long. drew_some e.by 0 i (all_entries k.history) e e_at (k.newborn e.by long).0 refl)
-          (λ q. drew_some k.hub 0 i (all_entries k.history) e e_at k.idle.0 q);
-      receivers = λ i c c_at. in_roll c.to
-          (λ long. took_some c.to 0 i k.history.claims c c_at (k.newborn c.to long).1 refl)
-          (λ q. took_some k.hub 0 i k.history.claims c c_at k.idle.1 q);
+      senders = λ i e e_at. let d = drawer s k i e e_at in in_roll e.by d.0 d.1;
+      receivers = λ i c c_at. let d = taker s k i c c_at in in_roll c.to d.0 d.1;
+      closer = λ j e. let d = closer s k j e in in_roll j d.0 d.1;
       left_is = refl;
+      heeds = (k.fits n v at).heard.2.2;
     }
 
     pub stands : (slots : List (Option T)) → ((j : ℕ) (y : Option T) → get_elem? s.homes j ≡ some (some y)

@@ -1,9 +1,9 @@
 -- What passes have begun, roles, free positions, and the accounts of passes that came back.
-use Rattle.mb_segment.proofs.Base.{Bool, List, None, Option, [], ap, arith, false, get_elem?, inl, inr, refl}
+use Rattle.mb_segment.proofs.Base.{Bool, List, None, Option, Some, [], ap, arith, false, get_elem?, inl, inr, refl}
 use Rattle.mb_segment.proofs.Base.{replicate, set_else, set_here, slice_set, some, some-injective, subst, suc}
 use Rattle.mb_segment.proofs.Base.{sym, true, zero, ℕ, ℕ_discrete, ◌<◌, ◌∙◌, ◌∷◌, ◌≡◌, ◌⊎◌}
 use Rattle.mb_segment.specs.Vocabulary.{Account, Half, HasHalf, History, In, Issuer, Match, Member, Nothing}
-use Rattle.mb_segment.specs.Vocabulary.{Reads, Role, Spent, Spot, View, Writes, free, got_by, if_hub}
+use Rattle.mb_segment.specs.Vocabulary.{Reads, Role, Spent, Spot, View, Writes, cuts_by, free, got_by, has_cut, if_hub, is_of}
 use Rattle.mb_segment.specs.Vocabulary.{one_if_member, or, sent_by}
 use Rattle.mb_segment.proofs.Totals.{there}
 
@@ -14,6 +14,10 @@ free_open (suc c) undrawn e = absurd (omega arith)
 pub free_shut : (cut undrawn : ℕ) → 0 < cut → free cut undrawn ≡ 0
 free_shut zero undrawn e = absurd (omega arith)
 free_shut (suc c) undrawn e = refl
+
+pub uncut : (c : Option ℕ) (j : ℕ) → cuts_by c ≡ 0 → is_of j c ≡ false
+uncut None j e = refl
+uncut (Some m) j e = absurd (omega arith)
 
 pub no_hub : (r : Role) → r ≡ Member → r ≡ Issuer → ⊥
 no_hub r m h = let e : one_if_member Member ≡ one_if_member Issuer = ap one_if_member (sym m ∙ h) in omega arith
@@ -83,10 +87,11 @@ module _ {T : Type 0} where
   half_here views n v w at half e = (w, set_here views n w (there views n v at), e)
 
   pub match_kept : (h g : History T) (roll : List ℕ) (as_ : List (Account T))
-      → ((j : ℕ) → In j roll → (sent_by j g ≡ sent_by j h) × (got_by j g ≡ got_by j h)) → Match h roll as_
+      → ((j : ℕ) → In j roll → (sent_by j g ≡ sent_by j h) × (got_by j g ≡ got_by j h) × (has_cut j g ≡ has_cut j h))
+      → Match h roll as_
       → Match g roll as_
   match_kept h g [] [] all m = tt
   match_kept h g [] (a ∷ more) all m = absurd m
   match_kept h g (j ∷ js) [] all m = absurd m
   match_kept h g (j ∷ js) (a ∷ more) all m = let o = all j (inl refl) in
-      (m.0 ∙ sym o.0, m.1 ∙ sym o.1, match_kept h g js more (λ i in_. all i (inr in_)) m.2)
+      (m.0 ∙ sym o.0, m.1 ∙ sym o.1, m.2 ∙ sym o.2, match_kept h g js more (λ i in_. all i (inr in_)) m.3)

@@ -1,12 +1,12 @@
 -- What a step has to show, so that the rule holds after it.
 use Rattle.mb_segment.proofs.Base.{Act, Allows, List, Option, Some, State, Valid, [], ap, arith, at_set}
-use Rattle.mb_segment.proofs.Base.{carried_after, either, exchanged, get_elem?, inl, inr, keeps, length, refl}
+use Rattle.mb_segment.proofs.Base.{carried_after, either, exchanged, false, get_elem?, inl, inr, keeps, length, refl}
 use Rattle.mb_segment.proofs.Base.{set_again, set_else, set_here, slice_index, slice_set, some}
 use Rattle.mb_segment.proofs.Base.{some-injective, stepped, subst, sym, true, ℕ, ℕ_discrete, ⊎_elim, ◌*◌, ◌+◌}
 use Rattle.mb_segment.proofs.Base.{◌-◌, ◌<◌, ◌==◌, ◌∙◌, ◌∷◌, ◌≡◌, ◌≢◌, ◌≤◌}
-use Rattle.mb_segment.specs.Vocabulary.{Account, Duty, Fits, Half, HalfFits, HasHalf, History, Homes, Keeps}
+use Rattle.mb_segment.specs.Vocabulary.{Account, AllHeed, Duty, Fits, Half, HalfFits, HasHalf, History, Homes, Keeps, Known}
 use Rattle.mb_segment.specs.Vocabulary.{Match, Quiet, Reads, Sat, Shut, Sight, Taken, Undrawn, View, Waiting}
-use Rattle.mb_segment.specs.Vocabulary.{Writes, closing, drawn, free, got_by, if_hub, listed, member}
+use Rattle.mb_segment.specs.Vocabulary.{Writes, closing, cuts_by, drawn, free, got_by, has_cut, if_hub, listed, member}
 use Rattle.mb_segment.specs.Vocabulary.{one_if_member, out, owed, sent_by, sleeping, spot, taken, total}
 use Rattle.mb_segment.proofs.Totals.{asleep_listed, length_set, there, total_set}
 use lib.Seq.{set-get_or}
@@ -28,9 +28,9 @@ abbrev pub free_in : {T : Type 0} → History T → List ℕ → ℕ → ℕ
 free_in h states cut = free cut (length states - drawn h)
 
 module _ {T : Type 0} where
-  -- the lists of other passes are the same
+  -- other passes did the same
   abbrev pub Same : History T → History T → ℕ → Type 0
-  Same h g n = (j : ℕ) → j ≢ n → (sent_by j g ≡ sent_by j h) × (got_by j g ≡ got_by j h)
+  Same h g n = (j : ℕ) → j ≢ n → (sent_by j g ≡ sent_by j h) × (got_by j g ≡ got_by j h) × (has_cut j g ≡ has_cut j h)
 
   abbrev pub now : (s : St T) → Keeps s → Next T
   now s k = record {
@@ -66,6 +66,7 @@ module _ {T : Type 0} where
     pub drawn_ : drawn k.history ≤ drawn x.history
     pub more : taken k.history ≤ taken x.history
     pub cut_ : k.cut ≤ x.cut
+    pub cutter : x.cut ≡ cuts_by x.history.cutter
     pub marks : (j : ℕ) → get_elem? k.states j ≢ some 0 → get_elem? x.states j ≢ some 0
     pub undrawn : Undrawn x.history x.states x.homes
     pub waits : Waiting x.history (slice_set s.views n w) x.states x.homes
@@ -76,7 +77,7 @@ module _ {T : Type 0} where
     pub role : w.role ≡ v.role
     pub out_ : w.out ≡ v.out
     pub same : Same k.history x.history n
-    pub idle : (sent_by k.hub x.history ≡ []) × (got_by k.hub x.history ≡ [])
+    pub idle : (sent_by k.hub x.history ≡ []) × (got_by k.hub x.history ≡ []) × (has_cut k.hub x.history ≡ false)
     pub roll : (as_ : List (Account T)) → Match k.history k.roll as_ → Match x.history k.roll as_
     pub halves : (j : ℕ) (half : Half T) → j ≢ n → HalfFits k.history k.states j half
         → HalfFits x.history x.states j half
@@ -91,16 +92,21 @@ module _ {T : Type 0} where
     member = λ r. let m = f.member r in record {
       sent = m.sent ∙ sym (o.same j apart).0;
       got = m.got ∙ sym (o.same j apart).1;
+      cut = m.cut ∙ sym (o.same j apart).2;
       no_hub = m.no_hub;
       not_back = m.not_back;
     };
-    hub_ = λ r. let m = f.hub_ r in record { here = m.here; ends = o.roll u.ends m.ends; nothing = m.nothing };
+    hub_ = λ r. let m = f.hub_ r in
+        record { here = m.here; ends = o.roll u.ends m.ends; nothing = m.nothing; idle = m.idle };
     back = f.back;
     half = o.halves j u.half apart f.half;
     low = let l = f.low in let m = o.more in omega arith;
     ripe = λ i e. let r = f.ripe i e in let m = o.as_many in (omega arith, o.marks i r.1);
     full = λ e. let r = f.full e in let m = o.as_many in let d = o.drawn_ in let i = o.within in omega arith;
     cut_ = λ e. let r = f.cut_ e in let m = o.cut_ in omega arith;
+    empty = let l = f.empty in let m = o.more in omega arith;
+    heard = let a = f.heard.0 in let b = f.heard.1 in let d = o.drawn_ in let m = o.more in
+        (omega arith, omega arith, f.heard.2);
     over = λ e. let r = f.over e in o.over r.0 r.1;
   }
 
@@ -134,6 +140,7 @@ module _ {T : Type 0} where
         sized = o.sized;
         small = omega arith;
         within = o.within;
+        cutter = o.cutter;
         undrawn = o.undrawn;
         waits = o.waits;
         taken_ = o.taken_;
@@ -154,7 +161,7 @@ module _ {T : Type 0} where
         newborn = λ j long. (
             let apart : j ≢ n = λ q. omega arith in
             let nb = k.newborn j (omega arith) in
-            ((o.same j apart).0 ∙ nb.0, (o.same j apart).1 ∙ nb.1)
+            ((o.same j apart).0 ∙ nb.0, (o.same j apart).1 ∙ nb.1, (o.same j apart).2 ∙ nb.2)
             );
         fits = λ j u e. ⊎_elim
             (λ (t : (j ≡ n) × (w ≡ u)). subst (λ (y : ℕ × View T). Fits x.history x.states x.cut k.hub k.roll y.0
@@ -182,24 +189,40 @@ module _ {T : Type 0} where
           )
       go (no ne) = (has.0, set_else views n j w ne ∙ has.1, has.2)
 
+  pub waits_stay : (s : St T) (k : Keeps s) (n : ℕ) (v w : View T) → get_elem? s.views n ≡ some v
+      → w.half ≡ v.half
+      → Waiting k.history (slice_set s.views n w) k.states s.homes
+  waits_stay s k n v w at e i x le x_at = ⊎_elim
+      (λ z. inl (z.0, half_stays s.views n v w at e x.by (Writes (spot i x.value)) z.1)) (λ z. inr z)
+      (k.waits i x le x_at)
+
+  pub taken_stay : (s : St T) (k : Keeps s) (n : ℕ) (v w : View T) → get_elem? s.views n ≡ some v
+      → w.half ≡ v.half
+      → Taken k.history (slice_set s.views n w) k.states s.homes
+  taken_stay s k n v w at e i c c_at = ⊎_elim
+      (λ z. inl (z.0, half_stays s.views n v w at e c.to (Reads (spot i c.entry.value)) z.1)) (λ z. inr z)
+      (k.taken_ i c c_at)
+
+  -- the same words of positions, and the same slots
+  abbrev pub still : (s : St T) → Keeps s → Next T → Next T
+  still s k x = record x { history = k.history; states = k.states; homes = s.homes; cut = k.cut }
+
   pub record Steady (s : St T) (k : Keeps s) (n : ℕ) (v w : View T) (x : Next T) : Type 0 where
     pub words : x.words
-        ≡ (drawn k.history + 9223372036854775808 * x.cut) ∷ taken k.history ∷
+        ≡ (drawn k.history + 9223372036854775808 * k.cut) ∷ taken k.history ∷
         (x.tokens + 4294967296 * x.waiting) ∷ k.states
     pub narrow : x.tokens < 4294967296
-    pub cut_ : k.cut ≤ x.cut
     pub counted : listed w + (k.tokens + k.waiting) ≡ listed v + (x.tokens + x.waiting)
-    pub over : free_in k.history k.states k.cut ≡ 0 → free_in k.history k.states x.cut ≡ 0
     pub role : w.role ≡ v.role
     pub out_ : w.out ≡ v.out
     pub half : w.half ≡ v.half
-    pub own : Fits k.history k.states x.cut k.hub k.roll n w
-    pub laws : Laws s k v w record x { history = k.history; states = k.states; homes = s.homes }
+    pub own : Fits k.history k.states k.cut k.hub k.roll n w
+    pub laws : Laws s k v w (still s k x)
 
   pub steady : (s : St T) (k : Keeps s) (n : ℕ) (v w : View T) (x : Next T) → get_elem? s.views n ≡ some v
       → Steady s k n v w x
-      → Keeps (after s record x { history = k.history; states = k.states; homes = s.homes } n w)
-  steady s k n v w x at o = moved s k n v w record x { history = k.history; states = k.states; homes = s.homes }
+      → Keeps (after s (still s k x) n w)
+  steady s k n v w x at o = moved s k n v w (still s k x)
       at record {
         words = o.words;
         narrow = o.narrow;
@@ -208,24 +231,17 @@ module _ {T : Type 0} where
         within = k.within;
         drawn_ = omega arith;
         more = omega arith;
-        cut_ = o.cut_;
+        cut_ = omega arith;
+        cutter = k.cutter;
         marks = λ j ne. ne;
         undrawn = k.undrawn;
-        waits = λ i e le e_at. ⊎_elim (λ z. inl (
-          z.0,
-          half_stays s.views n v w at o.half e.by
-              (Writes (spot i e.value)) z.1,
-        )) (λ z. inr z) (k.waits i e le e_at);
-        taken_ = λ i c c_at. ⊎_elim (λ z. inl (
-          z.0,
-          half_stays s.views n v w at o.half c.to
-              (Reads (spot i c.entry.value)) z.1,
-        )) (λ z. inr z) (k.taken_ i c c_at);
+        waits = waits_stay s k n v w at o.half;
+        taken_ = taken_stay s k n v w at o.half;
         counted = o.counted;
-        over = λ f e. (o.over f, e);
+        over = λ f e. (f, e);
         role = o.role;
         out_ = o.out_;
-        same = λ j ne. (refl, refl);
+        same = λ j ne. (refl, refl, refl);
         idle = k.idle;
         roll = λ as_ m. m;
         halves = λ j half ne f. f;
@@ -241,9 +257,7 @@ module _ {T : Type 0} where
   settled s k n v w at li ro ou ha own laws = steady s k n v w (now s k) at record {
     words = k.words;
     narrow = k.narrow;
-    cut_ = omega arith;
     counted = omega arith;
-    over = λ e. e;
     role = ro;
     out_ = ou;
     half = ha;
@@ -254,7 +268,7 @@ module _ {T : Type 0} where
   -- ---- a view that differs in what it owes alone
   abbrev pub Plain : View T → View T → Type 0
   Plain v w = (w.role ≡ v.role) × (w.account ≡ v.account) × (w.half ≡ v.half) × (w.sight ≡ v.sight)
-      × (w.over ≡ v.over) × (w.ends ≡ v.ends)
+      × (w.over ≡ v.over) × (w.ends ≡ v.ends) × (w.known ≡ v.known)
 
   pub refit : (h : History T) (states : List ℕ) (cut hub : ℕ) (roll : List ℕ) (n : ℕ) (v w : View T) → Plain v w
       → Fits h states cut hub roll n v → Fits h states cut hub roll n w
@@ -262,6 +276,7 @@ module _ {T : Type 0} where
     member = λ r. let m = f.member (sym p.0 ∙ r) in record {
       sent = ap (λ (a : Account T). a.sent) p.1 ∙ m.sent;
       got = ap (λ (a : Account T). a.got) p.1 ∙ m.got;
+      cut = ap (λ (a : Account T). a.cut) p.1 ∙ m.cut;
       no_hub = m.no_hub;
       not_back = m.not_back;
     };
@@ -269,13 +284,21 @@ module _ {T : Type 0} where
       here = m.here;
       ends = subst (λ (as_ : List (Account T)). Match h roll as_) (sym p.5) m.ends;
       nothing = p.2 ∙ m.nothing;
+      idle = ap (λ (a : Account T). a.sent) p.1 ∙ m.idle;
     };
-    back = λ r. let m = f.back (sym p.0 ∙ r) in (m.0, p.2 ∙ m.1);
+    back = λ r. let m = f.back (sym p.0 ∙ r) in
+        (m.0, p.2 ∙ m.1, ap (λ (a : Account T). a.sent) p.1 ∙ m.2);
     half = subst (λ (x : Half T). HalfFits h states n x) (sym p.2) f.half;
     low = subst (λ (x : Sight). x.low ≤ taken h) (sym p.3) f.low;
     ripe = λ i e. f.ripe i (sym (ap (λ (x : Sight). x.ripe) p.3) ∙ e);
     full = λ e. f.full (sym (ap (λ (x : Sight). x.full) p.3) ∙ e);
     cut_ = λ e. f.cut_ (sym (ap (λ (x : Sight). x.cut) p.3) ∙ e);
+    empty = subst (λ (x : Sight). x.empty ≤ taken h) (sym p.3) f.empty;
+    heard = (
+      subst (λ (x : Known). x.drawn ≤ drawn h) (sym p.6) f.heard.0,
+      subst (λ (x : Known). x.taken ≤ taken h) (sym p.6) f.heard.1,
+      subst (λ (l : List (Account T)). AllHeed l) (λ i. sym p.1 i ∷ sym p.5 i) f.heard.2,
+    );
     over = λ e. f.over (sym p.4 ∙ e);
   }
 
@@ -283,18 +306,21 @@ module _ {T : Type 0} where
   pub sighted : (h : History T) (states : List ℕ) (cut hub : ℕ) (roll : List ℕ) (n : ℕ) (v : View T) (x : Sight)
       → Fits h states cut hub roll n v → x.low ≤ taken h
       → ((i : ℕ) → x.ripe ≡ Some i → (i < length states) × (get_elem? states i ≢ some 0))
-      → (x.full ≡ true → drawn h ≡ length states) → (x.cut ≡ true → 0 < cut)
+      → (x.full ≡ true → drawn h ≡ length states) → (x.cut ≡ true → 0 < cut) → x.empty ≤ taken h
       → Fits h states cut hub roll n record v { sight = x }
-  sighted h states cut hub roll n v x f low ripe full cut_ = record {
+  sighted h states cut hub roll n v x f low ripe full cut_ empty = record {
     member = λ r. let m = f.member r in
-        record { sent = m.sent; got = m.got; no_hub = m.no_hub; not_back = m.not_back };
-    hub_ = λ r. let m = f.hub_ r in record { here = m.here; ends = m.ends; nothing = m.nothing };
+        record { sent = m.sent; got = m.got; cut = m.cut; no_hub = m.no_hub; not_back = m.not_back };
+    hub_ = λ r. let m = f.hub_ r in
+        record { here = m.here; ends = m.ends; nothing = m.nothing; idle = m.idle };
     back = f.back;
     half = f.half;
     low = low;
     ripe = ripe;
     full = full;
     cut_ = cut_;
+    empty = empty;
+    heard = f.heard;
     over = f.over;
   }
 

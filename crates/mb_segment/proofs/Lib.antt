@@ -11,5 +11,5 @@ pub mod ReadMoves
 pub mod LookMoves
 pub mod ListMoves
 pub mod PassMoves
-pub mod Endings
 pub mod Places
+pub mod Endings

@@ -30,9 +30,7 @@ module _ {T : Type 0} where
               words = ap (λ l. slice_set l 2 new) k.words
                   ∙ ap (λ r. (drawn k.history + 9223372036854775808 * k.cut) ∷ taken k.history ∷ r ∷ k.states) x.2;
               narrow = x.3;
-              cut_ = omega arith;
               counted = x.4;
-              over = λ e. e;
               role = refl;
               out_ = refl;
               half = refl;

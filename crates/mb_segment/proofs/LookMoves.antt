@@ -1,16 +1,18 @@
 -- The looks of a receiver keep the rule: at the number claimed, then at the number drawn.
-use Rattle.mb_segment.proofs.Base.{Allows, [], ap, arith, dec_le, dec_lt, get_elem?, inl, inr, keeps, length}
-use Rattle.mb_segment.proofs.Base.{none, refl, slice_index, some, step, suc, zero, ℕ, ⊎_elim, ◌%◌, ◌*◌}
+use Rattle.mb_segment.proofs.Base.{Allows, List, [], ap, arith, dec_le, dec_lt, dite, get_elem?, inl, inr, keeps, length}
+use Rattle.mb_segment.proofs.Base.{none, refl, slice_index, some, step, subst, suc, sym, zero, ℕ, ⊎_elim, ◌%◌, ◌*◌}
 use Rattle.mb_segment.proofs.Base.{◌+◌, ◌-◌, ◌<◌, ◌≡◌, ◌≤◌}
-use Rattle.mb_segment.specs.Vocabulary.{Duty, Keeps, Sat, View, always, done, drawn, falls_asleep}
-use Rattle.mb_segment.specs.Vocabulary.{free, looked, looking, sees_taken, told, with_duty}
-use Rattle.mb_segment.proofs.Spots.{nothing_left}
+use Rattle.mb_segment.specs.Vocabulary.{Below, Duty, Fits, Issuer, Keeps, Member, Role, SawAllTaken, Sat, Spent}
+use Rattle.mb_segment.specs.Vocabulary.{Spot, View, all_entries}
+use Rattle.mb_segment.specs.Vocabulary.{always, done, drawn, falls_asleep}
+use Rattle.mb_segment.specs.Vocabulary.{free, looked, looking, sees_empty, sees_taken, told, with_duty}
+use Rattle.mb_segment.proofs.Spots.{all_length, below_by, nothing_left}
 use Rattle.mb_segment.proofs.Halves.{free_open}
 use Rattle.mb_segment.proofs.Kept.{Goes, Plain, St, at0, at1, at_rest, loaded, refit, settled, sighted, stays}
 
 -- a view that differs in what it owes alone
 pub plain : {T : Type 0} (f : Duty → Duty) (v : View T) → Plain v (with_duty f v)
-plain f v = (refl, refl, refl, refl, refl, refl)
+plain f v = (refl, refl, refl, refl, refl, refl, refl)
 
 -- the pass owes other things, and is in the list as often as before
 abbrev pub StaysListed : (Duty → Duty) → Duty → Type 0
@@ -42,7 +44,7 @@ module _ {T : Type 0} where
         tt,
         loaded s 1 n me.1 (sees_taken r me.0) (settled s k n me.0 (sees_taken r me.0) at refl refl refl refl
             (sighted k.history k.states k.cut k.hub k.roll n me.0 record me.0.sight { low = r } fit
-            (omega arith) fit.ripe fit.full fit.cut_)
+            (omega arith) fit.ripe fit.full fit.cut_ fit.empty)
             (at_rest s k me.0 (sees_taken r me.0) refl)),
         (refl, refl),
       )
@@ -54,6 +56,23 @@ module _ {T : Type 0} where
       let now_ = at0 s k in let many = k.sized in let small = k.small in let in_ = k.within in
       let low = (k.fits n v at).low in
       nothing_left k.history.rest (omega arith)
+
+  -- where all that are drawn are below r, those are that the pass drew or saw marked
+  all_below : (s : St T) (k : Keeps s) (n : ℕ) (v : View T) → get_elem? s.views n ≡ some v → (r : ℕ)
+      → drawn k.history ≤ r → SawAllTaken (sees_empty r v)
+  all_below s k n v at r le = (
+    sent (k.fits n v at) le v.role refl,
+    λ p e. let t = (k.fits n v at).ripe p e in
+        dite (dec_lt p r) (λ lt. lt) (λ high. absurd (t.1 (k.undrawn p (omega arith) t.0).0)),
+  )
+    where
+      sent : Fits k.history k.states k.cut k.hub k.roll n v → drawn k.history ≤ r → (a : Role) → v.role ≡ a
+          → Below r v.account.sent
+      sent fit le Issuer e = subst (λ (l : List (Spot T)). Below r l) (sym (fit.hub_ e).idle) tt
+      sent fit le Spent e = subst (λ (l : List (Spot T)). Below r l) (sym (fit.back e).2) tt
+      sent fit le Member e = let many = all_length k.history in
+          subst (λ (l : List (Spot T)). Below r l) (sym (fit.member e).sent)
+          (below_by n 0 r (all_entries k.history) (omega arith))
 
   looks_at : (f g : Duty → Duty) (slots n : ℕ) (me : Sat T) → StaysListed f me.0.duty → StaysListed g me.0.duty
       → (g me.0.duty).asleep ≡ me.0.duty.asleep
@@ -72,20 +91,28 @@ module _ {T : Type 0} where
     ),
   )
   looks_at f g slots n me lf lg sleeps s k homes at (yes none_) (yes open_) =
-      let w = with_duty f me.0 in
+      let w = sees_empty (slice_index s.words 0) (with_duty f me.0) in
       let now_ = at0 s k in let many = k.sized in let small = k.small in let in_ = k.within in
       let empty = nothing_waits s k n me.0 at none_ in
       let zero_ : length k.history.rest ≡ 0 = ap length empty in
       let not_cut : k.cut ≡ 0 = omega arith in
+      let fit = k.fits n me.0 at in
       let free_is = free_open k.cut (length k.states - drawn k.history) not_cut in
       let l = lf.0 in (
         w,
         keeps,
         tt,
         loaded s 0 n me.1 w (settled s k n me.0 w at (omega arith) refl refl refl
-            (refit k.history k.states k.cut k.hub k.roll n me.0 w (plain f me.0) (k.fits n me.0 at))
+            (sighted k.history k.states k.cut k.hub k.roll n (with_duty f me.0)
+            record me.0.sight { empty = slice_index s.words 0 }
+            (refit k.history k.states k.cut k.hub k.roll n me.0 (with_duty f me.0) (plain f me.0) fit)
+            fit.low fit.ripe fit.full fit.cut_ (omega arith))
             (λ L O C L' O' C' l o c le q h. (inr (omega arith), inr (omega arith)))),
-        ((λ lt. absurd (omega arith)), (λ _ _. (refl, refl)), λ _ le. absurd (omega arith)),
+        (
+          (λ lt. absurd (omega arith)),
+          (λ _ _. ((refl, refl), all_below s k n me.0 at (slice_index s.words 0) (omega arith))),
+          λ _ le. absurd (omega arith),
+        ),
       )
   looks_at f g slots n me lf lg sleeps s k homes at (yes none_) (no over_) =
       let w = told (with_duty g me.0) in
@@ -103,14 +130,17 @@ module _ {T : Type 0} where
         loaded s 0 n me.1 w (settled s k n me.0 w at (omega arith) refl refl refl
             record {
               member = λ r. let m = fit.member r in record
-                  { sent = m.sent; got = m.got; no_hub = m.no_hub; not_back = m.not_back };
-              hub_ = λ r. let m = fit.hub_ r in record { here = m.here; ends = m.ends; nothing = m.nothing };
+                  { sent = m.sent; got = m.got; cut = m.cut; no_hub = m.no_hub; not_back = m.not_back };
+              hub_ = λ r. let m = fit.hub_ r in record
+                  { here = m.here; ends = m.ends; nothing = m.nothing; idle = m.idle };
               back = fit.back;
               half = fit.half;
               low = fit.low;
               ripe = fit.ripe;
               full = fit.full;
               cut_ = fit.cut_;
+              empty = fit.empty;
+              heard = fit.heard;
               over = λ _. (shut_, empty);
             }
             (λ L O C L' O' C' l o c le q h. let e = lg.1 in

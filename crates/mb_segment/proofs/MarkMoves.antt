@@ -145,6 +145,7 @@ module _ {T : Type 0} where
               drawn_ = omega arith;
               more = omega arith;
               cut_ = omega arith;
+              cutter = k.cutter;
               marks = mark_marks s k n v w at p half;
               undrawn = mark_undrawn s k n v w at p half;
               waits = mark_waits s k n v w at p half;
@@ -153,13 +154,13 @@ module _ {T : Type 0} where
               over = λ f e. (ap (λ (m : ℕ). free k.cut (m - drawn k.history)) many₀ ∙ f, e);
               role = refl;
               out_ = refl;
-              same = λ j ne. (refl, refl);
+              same = λ j ne. (refl, refl, refl);
               idle = k.idle;
               roll = λ as_ m. m;
               halves = mark_halves s k n v w at p half;
               own = record {
                 member = λ r. let m = fit.member r in record
-                    { sent = m.sent; got = m.got; no_hub = m.no_hub; not_back = m.not_back };
+                    { sent = m.sent; got = m.got; cut = m.cut; no_hub = m.no_hub; not_back = m.not_back };
                 hub_ = λ r. absurd (no_hub v.role role r);
                 back = λ r. absurd (no_spent v.role role r);
                 half = tt;
@@ -167,6 +168,8 @@ module _ {T : Type 0} where
                 ripe = λ j e. let r = fit.ripe j e in (omega arith, mark_marks s k n v w at p half j r.1);
                 full = λ e. let f = fit.full e in omega arith;
                 cut_ = fit.cut_;
+                empty = fit.empty;
+                heard = fit.heard;
                 over = λ e. let f = fit.over e in (
                   ap (λ (m : ℕ). free k.cut (m - drawn k.history)) many₀
                       ∙ f.0,
@@ -207,7 +210,7 @@ module _ {T : Type 0} where
               λ z. some_ (same_ ∙ (index_at k.states p 0
                   (subst (λ (y : ℕ). get_elem? k.states y ≡ some 0) (sym q) z))),
             ))
-            fit.full fit.cut_)
+            fit.full fit.cut_ fit.empty)
             (at_rest s k me.0 (sees_mark p me.0) refl)),
         ((λ _. (refl, refl)), λ e. absurd (some_ e)),
       )

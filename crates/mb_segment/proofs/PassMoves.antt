@@ -24,24 +24,30 @@ module _ {T : Type 0} where
     member = λ e. let m = is_member e in record {
       sent = m.sent;
       got = m.got;
+      cut = m.cut;
       no_hub = m.no_hub;
       not_back
           = m.not_back;
     };
-    hub_ = λ e. let m = hub_ e in record { here = m.0; ends = m.1; nothing = refl };
-    back = λ e. (back e, refl);
+    hub_ = λ e. let m = hub_ e in record { here = m.0; ends = m.1; nothing = refl; idle = refl };
+    back = λ e. (back e, refl, refl);
     half = tt;
     low = omega arith;
     ripe = λ k e. absurd (no_some k e);
     full = λ e. absurd (true≢false (sym e));
     cut_ = λ e. absurd (true≢false (sym e));
+    empty = omega arith;
+    heard = (omega arith, omega arith, (tt, tt, tt));
     over = λ e. absurd (true≢false (sym e));
   }
 
   -- ---- a new segment
-  first_is : (n : ℕ) (v : View T) → get_elem? (new_hub ∷ []) n ≡ some v → (0 ≡ n) × (new_hub ≡ v)
+  pub first_is : (n : ℕ) (v : View T) → get_elem? (new_hub ∷ []) n ≡ some v → (0 ≡ n) × (new_hub ≡ v)
   first_is zero v at = (refl, some-injective new_hub v at)
   first_is (suc n) v at = absurd (some-ne-none v (sym at))
+
+  abbrev unused : History T
+  unused = record { claims = []; rest = []; cutter = None }
 
   pub opens : (count : ℕ) → count < 4294967296
       → Keeps (opening (0 ∷ 0 ∷ 0 ∷ replicate count 0) (empty_slots T count) new_hub)
@@ -50,7 +56,7 @@ module _ {T : Type 0} where
       let m₁ : length (empty_slots T count) ≡ count = replicate_length count None in
       let m₂ = map_length some (empty_slots T count) in
       record {
-        history = record { claims = []; rest = [] };
+        history = unused;
         states = replicate count 0;
         tokens = 0;
         waiting = 0;
@@ -60,6 +66,7 @@ module _ {T : Type 0} where
         sized = omega arith;
         small = omega arith;
         within = omega arith;
+        cutter = refl;
         undrawn = λ k le lt. (
           replicate_at count 0 k (omega arith),
           at_map some (empty_slots T count) k None (replicate_at count None k (omega arith)),
@@ -71,16 +78,16 @@ module _ {T : Type 0} where
         shut = inl (omega arith);
         hub = 0;
         roll = [];
-        idle = (refl, refl);
+        idle = (refl, refl, refl);
         apart = tt;
         rolled = λ n in_. absurd in_;
         known = omega arith;
         out_ = refl;
-        newborn = λ n l. (refl, refl);
+        newborn = λ n l. (refl, refl, refl);
         fits = λ n v at. let f = first_is n v at in
-            subst (λ (y : ℕ × View T). Fits record { claims = []; rest = [] } (replicate count 0) 0 0 [] y.0 y.1)
+            subst (λ (y : ℕ × View T). Fits unused (replicate count 0) 0 0 [] y.0 y.1)
             (λ i. (f.0 i, f.1 i))
-            (unseen record { claims = []; rest = [] } (replicate count 0) 0 0 [] 0 Issuer
+            (unseen unused (replicate count 0) 0 0 [] 0 Issuer
             (λ e. absurd (hub_is_no_member e)) (λ _. (refl, tt)) (λ e. absurd (hub_is_not_spent Issuer refl e)));
       }
 
@@ -116,6 +123,7 @@ module _ {T : Type 0} where
         sized = k.sized;
         small = k.small;
         within = k.within;
+        cutter = k.cutter;
         undrawn = k.undrawn;
         waits = λ i e le e_at. ⊎_elim
             (λ z. inl (
@@ -146,7 +154,7 @@ module _ {T : Type 0} where
             (λ there_. ⊎_elim
             (λ (t : (j ≡ n) × (w ≡ u)). subst (λ (y : ℕ × View T). Fits k.history k.states k.cut k.hub k.roll y.0
             y.1) (λ i. (sym t.0 i, t.1 i))
-            (refit k.history k.states k.cut k.hub k.roll n v w (refl, refl, refl, refl, refl, refl)
+            (refit k.history k.states k.cut k.hub k.roll n v w (refl, refl, refl, refl, refl, refl, refl)
             (k.fits n v at)))
             (λ (t : (j ≢ n) × (get_elem? s.views j ≡ some u)). k.fits j u t.1)
             (at_set s.views n j w u there_))
@@ -158,6 +166,7 @@ module _ {T : Type 0} where
             (λ _. record {
               sent = sym nb.0;
               got = sym nb.1;
+              cut = sym nb.2;
               no_hub = λ q. let b = k.known in omega arith;
               not_back
                   = λ in_. let b = k.rolled j in_ in omega arith;
@@ -227,9 +236,9 @@ module _ {T : Type 0} where
           member = λ r. absurd (no_hub v.role r v_role);
           hub_ = λ _. record {
             here = h.here;
-            ends = (was_member.sent, was_member.got, h.ends);
-            nothing
-                = h.nothing;
+            ends = (was_member.sent, was_member.got, was_member.cut, h.ends);
+            nothing = h.nothing;
+            idle = h.idle;
           };
           back = λ r. absurd (hub_is_not_spent v.role v_role r);
           half = f.half;
@@ -237,6 +246,9 @@ module _ {T : Type 0} where
           ripe = f.ripe;
           full = f.full;
           cut_ = f.cut_;
+          empty = f.empty;
+          heard = let g = (k.fits other w was_other).heard in
+              (f.heard.0, f.heard.1, (f.heard.2.0, f.heard.2.1, (g.2.0, g.2.1, f.heard.2.2)));
           over = λ on. ⊎_elim f.over (k.fits other w was_other).over (either_over v.over w.over on);
         }
 
@@ -246,16 +258,19 @@ module _ {T : Type 0} where
           member = λ r. let m = f.member r in record {
             sent = m.sent;
             got = m.got;
+            cut = m.cut;
             no_hub = m.no_hub;
             not_back = λ in_. ⊎_elim (λ q. ne_other q) m.not_back in_;
           };
           hub_ = λ r. absurd (ne_hub ((f.hub_ r).here ∙ sym ((k.fits n v at).hub_ v_role).here));
-          back = λ r. let b = f.back r in (inr b.0, b.1);
+          back = λ r. let b = f.back r in (inr b.0, b.1, b.2);
           half = f.half;
           low = f.low;
           ripe = f.ripe;
           full = f.full;
           cut_ = f.cut_;
+          empty = f.empty;
+          heard = f.heard;
           over = f.over;
         }
 
@@ -297,6 +312,7 @@ module _ {T : Type 0} where
           sized = k.sized;
           small = k.small;
           within = k.within;
+          cutter = k.cutter;
           undrawn = k.undrawn;
           waits = λ i e le e_at. ⊎_elim (λ z. inl (z.0, half_joins e.by (Writes (spot i e.value)) z.1))
               (λ z. inr z) (k.waits i e le e_at);

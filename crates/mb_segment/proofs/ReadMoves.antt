@@ -139,6 +139,7 @@ module _ {T : Type 0} where
               drawn_ = omega arith;
               more = omega arith;
               cut_ = omega arith;
+              cutter = k.cutter;
               marks = read_marks s k n v w at p half;
               undrawn = read_undrawn s k n v w at p half;
               waits = read_waits s k n v w at p half;
@@ -147,13 +148,13 @@ module _ {T : Type 0} where
               over = λ f e. (frees ∙ f, e);
               role = refl;
               out_ = refl;
-              same = λ j ne. (refl, refl);
+              same = λ j ne. (refl, refl, refl);
               idle = k.idle;
               roll = λ as_ m. m;
               halves = read_halves s k n v w at p half;
               own = record {
                 member = λ r. let m = fit.member r in record
-                    { sent = m.sent; got = m.got; no_hub = m.no_hub; not_back = m.not_back };
+                    { sent = m.sent; got = m.got; cut = m.cut; no_hub = m.no_hub; not_back = m.not_back };
                 hub_ = λ r. absurd (no_hub v.role role r);
                 back = λ r. absurd (no_spent v.role role r);
                 half = tt;
@@ -161,6 +162,8 @@ module _ {T : Type 0} where
                 ripe = λ j e. let r = fit.ripe j e in (omega arith, read_marks s k n v w at p half j r.1);
                 full = λ e. let f = fit.full e in omega arith;
                 cut_ = fit.cut_;
+                empty = fit.empty;
+                heard = fit.heard;
                 over = λ e. let f = fit.over e in (frees ∙ f.0, f.1);
               };
               laws = λ L O C L' O' C' l o c le q h. (

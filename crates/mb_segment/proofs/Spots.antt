@@ -2,10 +2,10 @@
 use Rattle.mb_segment.proofs.Base.{Bool, List, None, Option, Some, [], ap, arith, eq-eqb, false, get_elem?}
 use Rattle.mb_segment.proofs.Base.{if◌then◌else◌, inl, inr, length, length-append, map, nat_eq, ne_eqb, refl}
 use Rattle.mb_segment.proofs.Base.{replicate, slice_index, slice_set, some, some-injective}
-use Rattle.mb_segment.proofs.Base.{some-ne-none, subst, suc, sym, true, zero, ℕ, ⊎_elim, ◌++◌, ◌+◌, ◌<◌, ◌∙◌}
+use Rattle.mb_segment.proofs.Base.{some-ne-none, subst, suc, sym, true, zero, ℕ, ⊎_elim, ◌++◌, ◌+◌, ◌<◌, ◌≤◌, ◌∙◌}
 use Rattle.mb_segment.proofs.Base.{◌∷◌, ◌≡◌, ◌≢◌, ◌⊎◌}
-use Rattle.mb_segment.specs.Vocabulary.{Claim, Entry, History, all_entries, drawn, entries, spot, spots_by}
-use Rattle.mb_segment.specs.Vocabulary.{spots_to}
+use Rattle.mb_segment.specs.Vocabulary.{Below, Claim, Entry, Heard, Heeds, History, Spot, View, all_entries, drawn, drew}
+use Rattle.mb_segment.specs.Vocabulary.{entries, spot, spots_by, spots_to, taken, took}
 
 pub size_set : {A : Type 0} (l : List A) (i : ℕ) (w : A) → length (slice_set l i w) ≡ length l
 size_set [] i w = refl
@@ -98,6 +98,16 @@ module _ {T : Type 0} where
       go r true = ap (λ l. spot p d.value ∷ l) r
       go r false = r
 
+  -- all positions of pass n are below m, where the list ends there
+  pub below_by : (n b m : ℕ) (es : List (Entry T)) → b + length es ≤ m → Below m (spots_by n b es)
+  below_by n b m [] le = tt
+  below_by n b m (d ∷ ds) le = go (omega arith) (below_by n (suc b) m ds (omega arith)) (nat_eq d.by n)
+    where
+      go : b < m → Below m (spots_by n (suc b) ds) → (c : Bool)
+          → Below m (if c then spot b d.value ∷ spots_by n (suc b) ds else spots_by n (suc b) ds)
+      go lt r true = (lt, r)
+      go lt r false = r
+
   pub by_other : (n p : ℕ) (es : List (Entry T)) (e : Entry T) → e.by ≢ n
       → spots_by n p (es ++ e ∷ []) ≡ spots_by n p es
   by_other n p [] e by =
@@ -142,3 +152,28 @@ module _ {T : Type 0} where
   entry_of [] es m c at = absurd (some-ne-none c (sym at))
   entry_of (d ∷ ds) es zero c at = ap (λ (z : Claim T). some z.entry) (some-injective d c at)
   entry_of (d ∷ ds) es (suc m) c at = entry_of ds es m c at
+
+module _ {T : Type 0} where
+  -- one call more, at position p, by a pass that knew of k before
+  heeds_more : (p : ℕ) (x : T) (k : ℕ) (ss : List (Spot T)) (ks : List ℕ) → k ≤ p → Heeds ss ks
+      → Heeds (ss ++ spot p x ∷ []) (ks ++ k ∷ [])
+  heeds_more p x k [] [] le h = (le, tt)
+  heeds_more p x k [] (j ∷ ks) le h = absurd h
+  heeds_more p x k (s ∷ ss) [] le h = absurd h
+  heeds_more p x k (s ∷ ss) (j ∷ ks) le h = (h.0, heeds_more p x k ss ks le h.1)
+
+  pub heard_draw : (h g : History T) (p : ℕ) (x : T) (v : View T) → drawn h ≤ p → p < drawn g → taken h ≤ taken g
+      → Heard h v → Heard g (drew p x v)
+  heard_draw h g p x v next more taken_ f = let a = f.0 in let b = f.1 in (
+    omega arith,
+    omega arith,
+    (heeds_more p x v.known.drawn v.account.sent v.account.sent_knew (omega arith) f.2.0, f.2.1, f.2.2),
+  )
+
+  pub heard_claim : (h g : History T) (p : ℕ) (x : T) (v : View T) → taken h ≤ p → p < taken g → drawn h ≤ drawn g
+      → p < drawn g → Heard h v → Heard g (took p x v)
+  heard_claim h g p x v next more drawn_ within f = let a = f.0 in let b = f.1 in (
+    omega arith,
+    omega arith,
+    (f.2.0, heeds_more p x v.known.taken v.account.got v.account.got_knew (omega arith) f.2.1, f.2.2),
+  )

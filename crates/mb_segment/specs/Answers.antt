@@ -50,7 +50,8 @@ OfLeave leave.Left left owes again = left
 OfLeave leave.Owes left owes again = owes
 OfLeave leave.Again left owes again = again
 
-abbrev pub OfCut : Cut → Type 0 → Type 0 → Type 0
-OfCut cut.Done done stays = done
-OfCut cut.Was done stays = stays
-OfCut cut.Again done stays = stays
+-- a cut: by this pass, or by another before, or another pass was first to draw
+abbrev pub OfCut : Cut → Type 0 → Type 0 → Type 0 → Type 0
+OfCut cut.Done done was again = done
+OfCut cut.Was done was again = was
+OfCut cut.Again done was again = again

@@ -1,5 +1,5 @@
 -- The history of a segment, as plain data: all positions drawn, in one order. The first of them were claimed.
-use Rattle.std.specs.Prelude.{List, [], length, nat_eq, suc, ℕ, ◌+◌, ◌++◌, ◌∷◌, if◌then◌else◌}
+use Rattle.std.specs.Prelude.{Bool, List, None, Option, Some, [], false, length, nat_eq, suc, ℕ, ◌+◌, ◌++◌, ◌∷◌, if◌then◌else◌}
 use Rattle.mb_segment.specs.Types.{Spot}
 
 -- a value, and the number of the pass that drew its position
@@ -12,10 +12,11 @@ pub record Claim (T : Type 0) : Type 0 where
   pub entry : Entry T
   pub to : ℕ
 
--- position k has the k-th entry: first those that were claimed, then those that wait
+-- position k has the k-th entry: first those that were claimed, then those that wait. And the pass that cut the segment
 pub record History (T : Type 0) : Type 0 where
   pub claims : List (Claim T)
   pub rest : List (Entry T)
+  pub cutter : Option ℕ
 
 abbrev pub entries : {T : Type 0} → List (Claim T) → List (Entry T)
 entries [] = []
@@ -57,3 +58,15 @@ sent_by n h = spots_by n 0 (all_entries h)
 
 abbrev pub got_by : {T : Type 0} → ℕ → History T → List (Spot T)
 got_by n h = spots_to n 0 h.claims
+
+-- whether pass n cut the segment, and how often that was done
+abbrev pub is_of : ℕ → Option ℕ → Bool
+is_of n None = false
+is_of n (Some m) = nat_eq m n
+
+abbrev pub has_cut : {T : Type 0} → ℕ → History T → Bool
+has_cut n h = is_of n h.cutter
+
+abbrev pub cuts_by : Option ℕ → ℕ
+cuts_by None = 0
+cuts_by (Some n) = 1

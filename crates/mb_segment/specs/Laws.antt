@@ -3,7 +3,7 @@ use Rattle.std.specs.Prelude.{List, Option, [], length, slice_index, suc, ℕ, �
 use mathlib.Core.Option.{some}
 use lib.ListN.{get_elem?}
 use Rattle.atomic_table.specs.Table.{State}
-use Rattle.mb_segment.specs.Types.{Member, Spot, View}
+use Rattle.mb_segment.specs.Types.{Account, Member, Spent, Spot, View}
 
 abbrev pub SegmentState : Type 0 → Type 0
 SegmentState T = State (Option T) (View T)
@@ -28,6 +28,10 @@ IsViewOf s n v = get_elem? s.views n ≡ some v
 -- it is the view of a pass that is out
 abbrev pub IsPassOf : {T : Type 0} → SegmentState T → ℕ → View T → Type 0
 IsPassOf s n v = (get_elem? s.views n ≡ some v) × (v.role ≡ Member)
+
+-- it is the number of a pass; and if the pass is out, this is true of its account
+abbrev pub IsOfPass : {T : Type 0} → SegmentState T → ℕ → (Account T → Type 0) → Type 0
+IsOfPass {T} s n did = (v : View T) × IsViewOf s n v × ((v.role ≡ Spent) ⊎ ((v.role ≡ Member) × did v.account))
 
 -- the list has this value at this position
 abbrev pub Has : {T : Type 0} → ℕ → T → List (Spot T) → Type 0

@@ -4,6 +4,7 @@ pub mod History
 pub mod Sleeping
 pub mod Slots
 pub mod Passes
+pub mod Heard
 pub mod Rule
 pub mod Moves
 pub mod Steps
@@ -14,5 +15,6 @@ pub mod Answers
 pub mod Waiting
 pub mod Ending
 pub mod Vocabulary
+pub mod SegmentSamples
 -- the names that clauses use, also for the crates above
 pub use Vocabulary.*

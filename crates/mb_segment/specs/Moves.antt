@@ -1,6 +1,6 @@
 -- How a step changes a view.
-use Rattle.std.specs.Prelude.{Bool, Some, [], false, true, ℕ, ◌+◌, ◌++◌, ◌-◌, ◌∷◌, ◌≡◌}
-use Rattle.mb_segment.specs.Types.{Duty, Nothing, Reads, View, Writes}
+use Rattle.std.specs.Prelude.{Bool, List, Some, [], false, max, suc, true, ℕ, ◌+◌, ◌++◌, ◌-◌, ◌<◌, ◌∷◌, ◌≡◌}
+use Rattle.mb_segment.specs.Types.{Duty, Nothing, Reads, Spot, View, Writes}
 use Rattle.mb_segment.specs.History.{spot}
 use Rattle.mb_segment.specs.Passes.{blank, blind}
 
@@ -10,10 +10,24 @@ with_duty f v = record v { duty = f v.duty }
 -- ---- positions
 -- it drew position p for the value x, which counts as sent
 abbrev pub drew : {T : Type 0} → ℕ → T → View T → View T
-drew p x v = record v { account = record v.account { sent = v.account.sent ++ spot p x ∷ [] }; half = Writes (spot p x) }
+drew p x v = record v {
+  account = record v.account {
+    sent = v.account.sent ++ spot p x ∷ [];
+    sent_knew = v.account.sent_knew ++ v.known.drawn ∷ [];
+  };
+  known = record v.known { drawn = suc p };
+  half = Writes (spot p x);
+}
 
 abbrev pub took : {T : Type 0} → ℕ → T → View T → View T
-took p x v = record v { account = record v.account { got = v.account.got ++ spot p x ∷ [] }; half = Reads (spot p x) }
+took p x v = record v {
+  account = record v.account {
+    got = v.account.got ++ spot p x ∷ [];
+    got_knew = v.account.got_knew ++ v.known.taken ∷ [];
+  };
+  known = record { drawn = max v.known.drawn (suc p); taken = suc p };
+  half = Reads (spot p x);
+}
 
 -- it has marked the position, or read it
 abbrev pub ended : {T : Type 0} → View T → View T
@@ -88,6 +102,24 @@ sees_full v = record v { sight = record v.sight { full = true } }
 abbrev pub sees_cut : {T : Type 0} → View T → View T
 sees_cut v = record v { sight = record v.sight { cut = true } }
 
+-- it cut the segment
+abbrev pub did_cut : {T : Type 0} → View T → View T
+did_cut v = record v { account = record v.account { cut = true }; sight = record v.sight { cut = true } }
+
+-- it saw that all positions were claimed when n were drawn
+abbrev pub sees_empty : {T : Type 0} → ℕ → View T → View T
+sees_empty n v = record v { sight = record v.sight { empty = n } }
+
+-- each position of the list is below n
+abbrev pub Below : {T : Type 0} → ℕ → List (Spot T) → Type 0
+Below n [] = Unit {0}
+Below n (s ∷ ss) = (s.at < n) × Below n ss
+
+-- when it saw that, all was claimed that it had sent or seen marked
+abbrev pub SawAllTaken : {T : Type 0} → View T → Type 0
+SawAllTaken v = Below v.sight.empty v.account.sent
+    × ((p : ℕ) → v.sight.ripe ≡ Some p → p < v.sight.empty)
+
 -- it is told that no value can come any more
 abbrev pub told : {T : Type 0} → View T → View T
 told v = record v { over = true }
@@ -109,7 +141,7 @@ abbrev pub bare : {T : Type 0} → View T → View T
 bare v = record v { sight = blind }
 
 abbrev pub calm : {T : Type 0} → View T → View T
-calm v = record blank { account = v.account; over = v.over }
+calm v = record blank { account = v.account; known = v.known; over = v.over }
 
 -- the view is a pass's, which owes nothing, has nothing begun and is not in the list
 abbrev pub IsCalm : {T : Type 0} → View T → Type 0

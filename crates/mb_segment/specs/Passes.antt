@@ -1,7 +1,7 @@
 -- Which passes are out, and what those that came back had done.
 use Rattle.std.specs.Prelude.{List, None, [], ℕ, ◌∷◌, ◌≡◌, ◌⊎◌, false}
-use Rattle.mb_segment.specs.Types.{Account, Duty, Issuer, Member, Nothing, Role, Sight, Spent, View}
-use Rattle.mb_segment.specs.History.{History, got_by, sent_by}
+use Rattle.mb_segment.specs.Types.{Account, Duty, Issuer, Known, Member, Nothing, Role, Sight, Spent, View}
+use Rattle.mb_segment.specs.History.{History, got_by, has_cut, sent_by}
 
 abbrev pub In : ℕ → List ℕ → Type 0
 In n [] = ⊥
@@ -16,7 +16,8 @@ abbrev pub Match : {T : Type 0} → History T → List ℕ → List (Account T) 
 Match h [] [] = Unit {0}
 Match h [] (a ∷ rest) = ⊥
 Match h (n ∷ ns) [] = ⊥
-Match h (n ∷ ns) (a ∷ rest) = (a.sent ≡ sent_by n h) × (a.got ≡ got_by n h) × Match h ns rest
+Match h (n ∷ ns) (a ∷ rest) =
+    (a.sent ≡ sent_by n h) × (a.got ≡ got_by n h) × (a.cut ≡ has_cut n h) × Match h ns rest
 
 -- a pass that is out counts as one, and the hub knows how many are out
 abbrev pub one_if_member : Role → ℕ
@@ -40,16 +41,20 @@ abbrev pub no_duty : Duty
 no_duty = record { wakes = 0; looks = 0; fresh = 0; asleep = 0; leaving = 0; closing = 0 }
 
 abbrev pub blind : Sight
-blind = record { low = 0; ripe = None; full = false; cut = false }
+blind = record { low = 0; ripe = None; full = false; cut = false; empty = 0 }
 
 abbrev pub nothing_done : {T : Type 0} → Account T
-nothing_done = record { sent = []; got = [] }
+nothing_done = record { sent = []; got = []; cut = false; sent_knew = []; got_knew = [] }
+
+abbrev pub ignorant : Known
+ignorant = record { drawn = 0; taken = 0 }
 
 -- a pass that did nothing, saw nothing and owes nothing
 abbrev pub blank : {T : Type 0} → View T
 blank = record {
   role = Member;
   account = nothing_done;
+  known = ignorant;
   half = Nothing;
   duty = no_duty;
   sight = blind;

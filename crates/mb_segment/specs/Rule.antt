@@ -2,13 +2,14 @@
 -- Words: 0 how many positions are drawn, with the top bit once the segment is cut; 1 how many are claimed; 2 the list of
 -- those that wait: in its low half the tokens that were given and not taken, in its high half those without a token; then
 -- the state of each position.
-use Rattle.std.specs.Prelude.{List, Option, Some, [], length, true, ℕ, ◌+◌, ◌*◌, ◌-◌, ◌<◌, ◌∷◌, ◌≡◌, ◌≢◌, ◌≤◌}
+use Rattle.std.specs.Prelude.{List, Option, Some, [], false, length, true, ℕ, ◌+◌, ◌*◌, ◌-◌, ◌<◌, ◌∷◌, ◌≡◌, ◌≢◌, ◌≤◌}
 use mathlib.Core.Option.{some}
 use lib.ListN.{get_elem?}
 use Rattle.atomic_table.specs.Table.{State}
 use Rattle.mb_segment.specs.Types.{Issuer, Member, Nothing, Spent, View}
-use Rattle.mb_segment.specs.History.{History, drawn, got_by, sent_by, taken}
+use Rattle.mb_segment.specs.History.{History, cuts_by, drawn, got_by, has_cut, sent_by, taken}
 use Rattle.mb_segment.specs.Passes.{Distinct, In, Match, member, out}
+use Rattle.mb_segment.specs.Heard.{Heard}
 use Rattle.mb_segment.specs.Sleeping.{Quiet, Shut, closing, free, listed, owed, sleeping, total}
 use Rattle.mb_segment.specs.Slots.{HalfFits, Taken, Undrawn, Waiting}
 
@@ -16,6 +17,7 @@ use Rattle.mb_segment.specs.Slots.{HalfFits, Taken, Undrawn, Waiting}
 pub record IsMember {T : Type 0} (h : History T) (hub : ℕ) (roll : List ℕ) (n : ℕ) (v : View T) : Type 0 where
   pub sent : v.account.sent ≡ sent_by n h
   pub got : v.account.got ≡ got_by n h
+  pub cut : v.account.cut ≡ has_cut n h
   pub no_hub : n ≢ hub
   pub not_back : In n roll → ⊥
 
@@ -24,17 +26,20 @@ pub record IsHub {T : Type 0} (h : History T) (hub : ℕ) (roll : List ℕ) (n :
   pub here : n ≡ hub
   pub ends : Match h roll v.ends
   pub nothing : v.half ≡ Nothing
+  pub idle : v.account.sent ≡ []
 
 -- what the view of number n says is true. `cut` is not 0 once the segment is cut
 pub record Fits {T : Type 0} (h : History T) (states : List ℕ) (cut hub : ℕ) (roll : List ℕ) (n : ℕ) (v : View T) : Type 0 where
   pub member : v.role ≡ Member → IsMember h hub roll n v
   pub hub_ : v.role ≡ Issuer → IsHub h hub roll n v
-  pub back : v.role ≡ Spent → In n roll × (v.half ≡ Nothing)
+  pub back : v.role ≡ Spent → In n roll × (v.half ≡ Nothing) × (v.account.sent ≡ [])
   pub half : HalfFits h states n v.half
   pub low : v.sight.low ≤ taken h
   pub ripe : (k : ℕ) → v.sight.ripe ≡ Some k → (k < length states) × (get_elem? states k ≢ some 0)
   pub full : v.sight.full ≡ true → drawn h ≡ length states
   pub cut_ : v.sight.cut ≡ true → 0 < cut
+  pub empty : v.sight.empty ≤ taken h
+  pub heard : Heard h v
   pub over : v.over ≡ true → (free cut (length states - drawn h) ≡ 0) × (h.rest ≡ [])
 
 pub record Keeps {T : Type 0} (s : State (Option T) (View T)) : Type 0 where
@@ -48,6 +53,7 @@ pub record Keeps {T : Type 0} (s : State (Option T) (View T)) : Type 0 where
   pub sized : length states ≡ length s.homes
   pub small : length states < 9223372036854775808
   pub within : drawn history ≤ length states
+  pub cutter : cut ≡ cuts_by history.cutter
   -- what each position holds
   pub undrawn : Undrawn history states s.homes
   pub waits : Waiting history s.views states s.homes
@@ -56,14 +62,15 @@ pub record Keeps {T : Type 0} (s : State (Option T) (View T)) : Type 0 where
   pub counted : total listed s.views ≡ tokens + waiting
   pub quiet : Quiet (length history.rest) tokens (total sleeping s.views) (total owed s.views)
   pub shut : Shut tokens (total sleeping s.views) (free cut (length states - drawn history)) (total closing s.views)
-  -- the number of the hub, which sends and receives nothing, and the numbers of the passes that came back
+  -- the number of the hub, which does nothing itself, and the numbers of the passes that came back
   pub hub : ℕ
   pub roll : List ℕ
-  pub idle : (sent_by hub history ≡ []) × (got_by hub history ≡ [])
+  pub idle : (sent_by hub history ≡ []) × (got_by hub history ≡ []) × (has_cut hub history ≡ false)
   pub apart : Distinct roll
   pub rolled : (n : ℕ) → In n roll → n < length s.views
   pub known : hub < length s.views
   pub out_ : total member s.views ≡ total out s.views
   -- a number that no pass has yet is in no entry
-  pub newborn : (n : ℕ) → length s.views ≤ n → (sent_by n history ≡ []) × (got_by n history ≡ [])
+  pub newborn : (n : ℕ) → length s.views ≤ n
+      → (sent_by n history ≡ []) × (got_by n history ≡ []) × (has_cut n history ≡ false)
   pub fits : (n : ℕ) (v : View T) → get_elem? s.views n ≡ some v → Fits history states cut hub roll n v

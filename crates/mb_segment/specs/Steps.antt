@@ -2,7 +2,7 @@
 use Rattle.std.specs.Prelude.{None, Option, Some, ℕ, ◌%◌, ◌<◌, ◌∷◌, ◌≡◌, ◌≢◌, ◌≤◌}
 use Rattle.atomic_table.specs.Table.{Me, Step, rest}
 use Rattle.mb_segment.specs.Types.{Duty, View}
-use Rattle.mb_segment.specs.Moves.{drew, ended, sees_cut, sees_full, sees_mark, told, took, with_duty}
+use Rattle.mb_segment.specs.Moves.{SawAllTaken, drew, ended, sees_cut, sees_empty, sees_full, sees_mark, told, took, with_duty}
 
 abbrev pub Sat : Type 0 → Type 0
 Sat T = Me (Option T) (View T)
@@ -46,6 +46,11 @@ asking st m r n =
     × (r < 9223372036854775808 → st.slots ≤ r → becomes m n (sees_full m.0))
     × (r < st.slots → becomes m n m.0)
 
+-- a load of the number drawn, before a cut
+abbrev pub seeing_cut : {T : Type 0} → Step (Option T) → Sat T → ℕ → Sat T → Type 0
+seeing_cut st m r n =
+    (9223372036854775808 ≤ r → becomes m n (sees_cut m.0)) × (r < 9223372036854775808 → becomes m n m.0)
+
 -- a load of the state of position k: not 0 once it is marked
 abbrev pub seeing_mark : {T : Type 0} → ℕ → Step (Option T) → Sat T → ℕ → Sat T → Type 0
 seeing_mark k st m r n = (r ≢ 0 → becomes m n (sees_mark k m.0)) × (r ≡ 0 → becomes m n m.0)
@@ -54,7 +59,8 @@ seeing_mark k st m r n = (r ≢ 0 → becomes m n (sees_mark k m.0)) × (r ≡ 0
 abbrev pub looking : {T : Type 0} → (Duty → Duty) → (Duty → Duty) → Step (Option T) → Sat T → ℕ → Sat T → Type 0
 looking none_yet none_ever st m r n =
     (m.0.sight.low < r % 9223372036854775808 → becomes m n m.0)
-    × (r % 9223372036854775808 ≤ m.0.sight.low → r < st.slots → becomes m n (with_duty none_yet m.0))
+    × (r % 9223372036854775808 ≤ m.0.sight.low → r < st.slots
+    → becomes m n (sees_empty r (with_duty none_yet m.0)) × SawAllTaken n.0)
     × (r % 9223372036854775808 ≤ m.0.sight.low → st.slots ≤ r → becomes m n (told (with_duty none_ever m.0)))
 
 -- a load of the list: nobody waits without a token, or some do

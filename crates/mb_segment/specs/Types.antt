@@ -3,6 +3,7 @@ pub use Rattle.mb_segment.specs.declared.view.Account.{Account}
 pub use Rattle.mb_segment.specs.declared.view.Duty.{Duty}
 pub use Rattle.mb_segment.specs.declared.view.Half.{Half}
 pub use Rattle.mb_segment.specs.declared.view.Half.TheVariants.{Nothing, Reads, Writes}
+pub use Rattle.mb_segment.specs.declared.view.Known.{Known}
 pub use Rattle.mb_segment.specs.declared.view.Role.{Role}
 pub use Rattle.mb_segment.specs.declared.view.Role.TheVariants.{Issuer, Member, Spent}
 pub use Rattle.mb_segment.specs.declared.view.Sight.{Sight}

@@ -11,6 +11,11 @@ abbrev pub value_of : {T : Type 0} → NotSent T → T
 value_of (not_sent.Full x) = x
 value_of (not_sent.Closed x) = x
 
+-- the segment was full, or it was cut
+abbrev pub OfNotSent : {T : Type 0} → NotSent T → Type 0 → Type 0 → Type 0
+OfNotSent (not_sent.Full x) full cut = full
+OfNotSent (not_sent.Closed x) full cut = cut
+
 -- a value was found, none yet, or none for ever
 abbrev pub OfFound : {T : Type 0} → Found T → (T → Type 0) → Type 0 → Type 0 → Type 0
 OfFound (found.Value x) some empty over = some x

@@ -4,10 +4,8 @@ ghost use Rattle.mb_segment.specs.{HasLeft, IsWhole, Issuer, hub_view};
 
 use crate::left::Left;
 use crate::segment::{Hub, Segment};
+use crate::words::CUT;
 use std::alloc::Allocator;
-
-/// The bit of the number drawn that says that the segment was cut.
-const CUT: u64 = 9223372036854775808;
 
 impl<T: Drop, A: Allocator + Drop> Segment<T, A> {
     /// Ends the segment, once the hub has taken back all passes. Their accounts and the values left are those of one

@@ -1,9 +1,10 @@
 //! The laws of a segment, over all histories. The functions compute nothing: their contracts are the laws.
-ghost use Rattle.std.specs.Prelude.{List, [], length, true, ℕ, ◌+◌, ◌<◌, ◌≡◌, ◌≤◌, ◌⊎◌};
+ghost use Rattle.std.specs.Prelude.{List, Some, [], length, true, ℕ, ◌+◌, ◌<◌, ◌∷◌, ◌≡◌, ◌≤◌, ◌⊎◌};
 ghost use mathlib.Core.Option.{some};
 ghost use lib.ListN.{get_elem?};
-ghost use Rattle.mb_segment.specs.{Claim, Has, IsCut, IsOver, IsPassOf, IsViewOf, Keeps, Rises, SegmentState, View, claimed_in};
-ghost use Rattle.mb_segment.specs.{closing, drawn_in, got_by, owed, sent_by, sleeping, total};
+ghost use Rattle.mb_segment.specs.{Claim, Entry, Has, IsCut, IsOfPass, IsOver, IsPassOf, IsViewOf, Keeps, Rises};
+ghost use Rattle.mb_segment.specs.{SawAllTaken, SegmentState, View, all_entries, claimed_in, closing, drawn_in};
+ghost use Rattle.mb_segment.specs.{got_by, new_hub, owed, sent_by, sleeping, total};
 
 /// All positions drawn stand in one order, and the first of them are those claimed. What a pass sent and what it
 /// received stand there in its own order. What is drawn or claimed next stands after all that was before.
@@ -18,8 +19,8 @@ pub fn one_order<T>()
         → IsPassOf s n v → Has p x v.account.got → p < claimed_in s }
 {}
 
-/// A position has one drawer and one taker, and its taker got what its drawer gave. Each position below the number
-/// claimed has a taker, so nobody overtakes.
+/// A position has one drawer and one taker, and its taker got what its drawer gave. Each position below the number drawn
+/// was drawn by a pass. Each below the number claimed was taken by one, so nobody overtakes.
 pub fn one_taker<T>()
     ensures taker { (s : SegmentState T) (k : Keeps s) (i j : ℕ) (u v : View T) (p : ℕ) (x y : T)
         → IsPassOf s i u → IsPassOf s j v
@@ -31,21 +32,38 @@ pub fn one_taker<T>()
         → IsPassOf s i u → IsPassOf s j v
         → Has p x u.account.sent → Has p y v.account.got → x ≡ y }
     ensures beginning { (s : SegmentState T) (k : Keeps s) (p : ℕ) → p < claimed_in s
-        → (c : Claim T) × (get_elem? k.history.claims p ≡ some c) }
+        → (c : Claim T) × (get_elem? k.history.claims p ≡ some c)
+        × IsOfPass s c.to (λ a. Has p c.entry.value a.got) }
+    ensures drawn { (s : SegmentState T) (k : Keeps s) (p : ℕ) → p < drawn_in s
+        → (e : Entry T) × (get_elem? (all_entries k.history) p ≡ some e)
+        × IsOfPass s e.by (λ a. Has p e.value a.sent) }
 {}
 
 /// Where a receiver loaded the number claimed, and then finds no more drawn, each position drawn is claimed at that
-/// load. Where a pass was told that no value can come any more, none waits and no more will be drawn; where it was told
-/// that the segment is full or cut, it is.
+/// load. What it had sent or seen marked then was claimed, and stays so. Where a pass was told that no value can come any
+/// more, none waits and no more will be drawn; where it was told that the segment is full or cut, it is.
 pub fn over_is_true<T>()
     ensures empty { (s : SegmentState T) (k : Keeps s) (n : ℕ) (v : View T) → IsViewOf s n v
         → drawn_in s ≤ v.sight.low → (drawn_in s ≡ claimed_in s) × (k.history.rest ≡ []) }
     ensures over { (s : SegmentState T) (k : Keeps s) (n : ℕ) (v : View T) → IsViewOf s n v
         → v.over ≡ true → IsOver s × (drawn_in s ≡ claimed_in s) × (k.history.rest ≡ []) }
+    ensures taken { (s : SegmentState T) (k : Keeps s) (n : ℕ) (v : View T) (p : ℕ) (x : T)
+        → IsViewOf s n v → SawAllTaken v
+        → Has p x v.account.sent ⊎ (v.sight.ripe ≡ Some p) → p < claimed_in s }
     ensures full { (s : SegmentState T) (k : Keeps s) (n : ℕ) (v : View T) → IsViewOf s n v
         → v.sight.full ≡ true → drawn_in s ≡ length s.homes }
     ensures cut { (s : SegmentState T) (k : Keeps s) (n : ℕ) (v : View T) → IsViewOf s n v
         → v.sight.cut ≡ true → IsCut s }
+{}
+
+/// Only a pass cuts the segment, and only one: its account says so. Before a pass is issued, nothing is drawn or cut.
+pub fn one_cutter<T>()
+    ensures cutter { (s : SegmentState T) (k : Keeps s) → IsCut s
+        → (n : ℕ) × (k.history.cutter ≡ Some n) × IsOfPass s n (λ a. a.cut ≡ true) }
+    ensures cut { (s : SegmentState T) (k : Keeps s) (n : ℕ) (v : View T) → IsPassOf s n v
+        → v.account.cut ≡ true → IsCut s × (k.history.cutter ≡ Some n) }
+    ensures new { (s : SegmentState T) (k : Keeps s) → s.views ≡ new_hub ∷ []
+        → (drawn_in s ≡ 0) × (IsCut s → ⊥) }
 {}
 
 /// Between any two steps: if a receiver sleeps without a token, no more values wait than there are tokens given, and

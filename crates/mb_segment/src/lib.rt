@@ -38,6 +38,7 @@ mod left;
 mod list;
 mod receiving;
 mod rule;
+pub mod samples;
 mod segment;
 mod sending;
 #[cfg(test)]
@@ -50,5 +51,5 @@ pub use answers::{Cut, Draw, Leave, Look, Rest, Wake};
 pub use idle::Idle;
 pub use left::Left;
 pub use segment::{Hub, Pass, Segment};
-pub use view::{Account, Duty, Half, Role, Sight, Spot, View};
+pub use view::{Account, Duty, Half, Known, Role, Sight, Spot, View};
 pub use waiting::{NotSent, Received};

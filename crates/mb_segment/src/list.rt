@@ -17,6 +17,9 @@ use std::time::Duration;
 /// without a token.
 const LIST: usize = 2;
 
+/// One that waits without a token, in the word of the list.
+pub(crate) const LISTED: u64 = 4294967296;
+
 impl<T: Drop, A: Allocator + Drop> Segment<T, A> {
     /// What the list may be. It tells nothing.
     pub(crate) fn peek_list(&self) -> u64 {

@@ -1,22 +1,20 @@
 //! The calls of receivers that never wait.
 ghost use Rattle.std.specs.Prelude.{Some, [], false, true, ◌<◌, ◌∷◌, ◌≡◌};
-ghost use Rattle.mb_segment.specs.{Becomes, IsStill, Member, Nothing, OfLeave, OfLook, OfRest, Reads, bare, done, ended};
-ghost use Rattle.mb_segment.specs.{enters, falls_asleep, held_by, leaves, leaves_with_token, looked, spot, told, took};
+ghost use Rattle.mb_segment.specs.{Becomes, IsStill, Member, Nothing, OfLeave, OfLook, OfRest, Reads, SawAllTaken, bare, done};
+ghost use Rattle.mb_segment.specs.{ended, enters, falls_asleep, held_by, leaves, leaves_with_token, looked, spot, told, took};
 ghost use Rattle.mb_segment.specs.{view_in, wakes_up, with_duty};
 
 use crate::answers::{Leave, Look, Rest};
+use crate::list::LISTED;
+use crate::rule::Ends;
 use crate::segment::{Pass, Segment};
+use crate::words::{CUT, state_of};
 use std::alloc::Allocator;
 use std::marker::Brand;
 
-/// One that waits without a token, in the word of the list.
-const LISTED: u64 = 4294967296;
-
-/// The bit of the number drawn that says that the segment is cut.
-const CUT: u64 = 9223372036854775808;
-
 impl<T: Drop, A: Allocator + Drop> Segment<T, A> {
-    /// Looks for the first value that waits. A look that finds nothing pays one look that is owed. Three accesses at most.
+    /// Looks for the first value that waits. A look that finds nothing pays one look that is owed. At that moment all was
+    /// claimed that the pass had sent or seen marked. Three accesses at most.
     pub fn look(&self, pass: &mut Pass<T>) -> Look
         requires segment { pass.old.seat.table_id ≡ self.now.table.shared.table_id }
         ensures pass { IsStill pass.old pass.new }
@@ -25,7 +23,8 @@ impl<T: Drop, A: Allocator + Drop> Segment<T, A> {
             (λ at. (at < self.now.size) × ((view_in pass.new).sight.ripe ≡ Some at)
             × (bare (view_in pass.new) ≡ bare (view_in pass.old)))
             (bare (view_in pass.new) ≡ bare (view_in pass.old))
-            (bare (view_in pass.new) ≡ with_duty looked (bare (view_in pass.old)))
+            ((bare (view_in pass.new) ≡ with_duty looked (bare (view_in pass.old)))
+            × SawAllTaken (view_in pass.new))
             (bare (view_in pass.new) ≡ told (with_duty looked (bare (view_in pass.old)))) }
     {
         let first = self.load_taken(pass);
@@ -53,7 +52,8 @@ impl<T: Drop, A: Allocator + Drop> Segment<T, A> {
             (λ at. (at < self.now.size) × ((view_in pass.new).sight.ripe ≡ Some at)
             × (bare (view_in pass.new) ≡ bare (view_in pass.old)))
             (bare (view_in pass.new) ≡ bare (view_in pass.old))
-            (bare (view_in pass.new) ≡ with_duty falls_asleep (bare (view_in pass.old)))
+            ((bare (view_in pass.new) ≡ with_duty falls_asleep (bare (view_in pass.old)))
+            × SawAllTaken (view_in pass.new))
             (bare (view_in pass.new) ≡ told (with_duty done (bare (view_in pass.old)))) }
     {
         let first = self.load_taken(pass);
@@ -116,7 +116,14 @@ impl<T: Drop, A: Allocator + Drop> Segment<T, A> {
         ensures read { view_in pass.new ≡ ended (view_in pass.old) }
         ensures held { held_by pass.new ≡ [] }
     {
-        self.finish_read(pass, at)
+        let value = pass.seat.slot_mut(&self.table.shared, at as usize).take();
+        self.table
+            .shared
+            .store::<Ends>(&mut pass.seat, state_of(at), 2);
+        match value {
+            Some(value) => value,
+            None => unreachable!(),
+        }
     }
 
     /// Enters the list of those that wait. The pass then owes a look. False if another pass changed the list. One access.

@@ -78,6 +78,16 @@ impl<T> Play<Option<T>, View<T>> for Ends {
     ghost then = { ending };
 }
 
+/// The exchange that cuts the segment.
+pub struct Cuts;
+
+impl<T> Play<Option<T>, View<T>> for Cuts {
+    ghost use Rattle.mb_segment.specs.Moves.{did_cut, owes_all, with_duty};
+    ghost use Rattle.mb_segment.specs.Steps.{exchanging};
+
+    ghost then = { exchanging (λ v. with_duty owes_all (did_cut v)) };
+}
+
 /// Any other exchange.
 pub struct Exchanges<F> {
     of: PhantomData<F>,
@@ -109,6 +119,15 @@ impl<T> Play<Option<T>, View<T>> for Asks {
     ghost use Rattle.mb_segment.specs.Steps.{asking};
 
     ghost then = { asking };
+}
+
+/// The load of the number drawn, before a cut.
+pub struct SeesCut;
+
+impl<T> Play<Option<T>, View<T>> for SeesCut {
+    ghost use Rattle.mb_segment.specs.Steps.{seeing_cut};
+
+    ghost then = { seeing_cut };
 }
 
 /// The load of the number claimed.

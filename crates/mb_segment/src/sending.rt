@@ -1,19 +1,16 @@
 //! The calls of senders that never wait.
 ghost use Rattle.std.specs.Prelude.{None, [], ◌+◌, ◌<◌, ◌∷◌, ◌≡◌};
-ghost use Rattle.mb_segment.specs.{Becomes, IsFree, IsStill, Member, OfCut, OfDraw, OfWake, OfWakeAll, Writes, drew, ended};
-ghost use Rattle.mb_segment.specs.{has_closed, has_woken, held_by, owes_all, owes_wake, sees_cut, sees_full, spot};
+ghost use Rattle.mb_segment.specs.{Becomes, IsFree, IsStill, Member, OfCut, OfDraw, OfWake, OfWakeAll, Writes, did_cut, drew};
+ghost use Rattle.mb_segment.specs.{ended, has_closed, has_woken, held_by, owes_all, owes_wake, sees_cut, sees_full, spot};
 ghost use Rattle.mb_segment.specs.{view_in, with_duty};
 
 use crate::answers::{Cut, Draw, Wake};
+use crate::list::LISTED;
+use crate::rule::Ends;
 use crate::segment::{Pass, Segment};
+use crate::words::{CUT, state_of};
 use std::alloc::Allocator;
 use std::marker::Brand;
-
-/// One that waits without a token, in the word of the list.
-const LISTED: u64 = 4294967296;
-
-/// The bit of the number drawn that says that the segment is cut.
-const CUT: u64 = 9223372036854775808;
 
 impl<T: Drop, A: Allocator + Drop> Segment<T, A> {
     /// Draws the next position for this value, which counts as sent from then on. The pass has to mark the position,
@@ -62,7 +59,10 @@ impl<T: Drop, A: Allocator + Drop> Segment<T, A> {
         ensures marked { view_in pass.new ≡ ended (view_in pass.old) }
         ensures held { held_by pass.new ≡ [] }
     {
-        self.mark_at(pass, at, value);
+        *pass.seat.slot_mut(&self.table.shared, at as usize) = Some(value);
+        self.table
+            .shared
+            .store::<Ends>(&mut pass.seat, state_of(at), 1);
     }
 
     /// Pays one wake that is owed: gives a token to one that waits, or finds that nobody does. Two accesses at most.
@@ -109,12 +109,14 @@ impl<T: Drop, A: Allocator + Drop> Segment<T, A> {
     /// Cuts the segment: no more positions will be drawn. Two accesses at most.
     pub fn cut(&self, pass: &mut Pass<T>) -> Cut
         requires segment { pass.old.seat.table_id ≡ self.now.table.shared.table_id }
+        requires member { (view_in pass.old).role ≡ Member }
         ensures pass { IsStill pass.old pass.new }
         ensures answer { OfCut result
-            (Becomes pass.old pass.new (with_duty owes_all (view_in pass.old)))
+            (Becomes pass.old pass.new (with_duty owes_all (did_cut (view_in pass.old))))
+            (Becomes pass.old pass.new (sees_cut (view_in pass.old)))
             (Becomes pass.old pass.new (view_in pass.old)) }
     {
-        let seen = self.table.shared.peek(0);
+        let seen = self.load_to_cut(pass);
         if seen >= CUT {
             return Cut::Was;
         }

@@ -3,36 +3,45 @@ ghost use Rattle.std.specs.Prelude.{◌≡◌};
 ghost use Rattle.std.specs.Thread.{IsSync};
 
 use crate::idle::Idle;
+use crate::left::Left;
 use crate::segment::Segment;
 use crate::waiting::{NotSent, Received};
 use std::alloc::{AllocError, Global};
 use std::sync::Wait;
 use std::test::Fail;
-use std::thread::{Threads, join};
-use std::time::{Duration, Instant};
+use std::thread::{Threads, join, sleep};
+use std::time::{Clock, Duration, Instant};
 
-fn send_all<R: Wait>(rt: &R, segment: &Segment<u64>, idle: Idle<u64>, many: u64)
+fn send_all<R: Wait>(rt: &R, segment: &Segment<u64>, idle: Idle<u64>, many: u64) -> Idle<u64>
     requires segment { idle.seat.table_id ≡ segment.now.table.shared.table_id }
+    ensures segment { result.seat.table_id ≡ segment.now.table.shared.table_id }
 {
     let mut pass = idle.pass();
     for value in 0..many {
         drop(segment.send(rt, &mut pass, value));
     }
-    drop(pass.rest());
+    pass.rest()
 }
 
-fn receive_all<R: Wait>(rt: &R, segment: &Segment<u64>, idle: Idle<u64>) -> (u64, u64)
+/// Receives at most so many values. Returns how many it got, their sum, and the pass.
+fn receive_all<R: Wait>(
+    rt: &R,
+    segment: &Segment<u64>,
+    idle: Idle<u64>,
+    most: u64,
+) -> (u64, u64, Idle<u64>)
     requires segment { idle.seat.table_id ≡ segment.now.table.shared.table_id }
+    ensures segment { result.2.seat.table_id ≡ segment.now.table.shared.table_id }
 {
     let mut pass = idle.pass();
     let mut count: u64 = 0;
     let mut sum: u64 = 0;
     for _ in rt.forever() {
+        if count == most {
+            return (count, sum, pass.rest());
+        }
         match segment.receive(rt, &mut pass) {
-            None => {
-                drop(pass.rest());
-                return (count, sum);
-            }
+            None => return (count, sum, pass.rest()),
             Some(value) => {
                 count = count.wrapping_add(1);
                 sum = sum.wrapping_add(value);
@@ -48,20 +57,24 @@ fn send_both<R: Threads + Wait + Sync>(
     a: Idle<u64>,
     b: Idle<u64>,
     many: u64,
-)
+) -> (Idle<u64>, Idle<u64>)
     requires sync { IsSync R.row }
     requires segment { (a.seat.table_id ≡ segment.now.table.shared.table_id)
         × (b.seat.table_id ≡ segment.now.table.shared.table_id) }
+    ensures segment { (result.0.seat.table_id ≡ segment.now.table.shared.table_id)
+        × (result.1.seat.table_id ≡ segment.now.table.shared.table_id) }
 {
     join(
         rt,
-        move ||
+        move || -> Idle<u64>
             requires { a.seat.table_id ≡ segment.now.table.shared.table_id }
+            ensures { result.seat.table_id ≡ segment.entry.now.table.shared.table_id }
         { send_all(rt, segment, a, many) },
-        move ||
+        move || -> Idle<u64>
             requires { b.seat.table_id ≡ segment.now.table.shared.table_id }
+            ensures { result.seat.table_id ≡ segment.entry.now.table.shared.table_id }
         { send_all(rt, segment, b, many) },
-    );
+    )
 }
 
 fn receive_both<R: Threads + Wait + Sync>(
@@ -69,54 +82,130 @@ fn receive_both<R: Threads + Wait + Sync>(
     segment: &Segment<u64>,
     a: Idle<u64>,
     b: Idle<u64>,
-) -> (u64, u64)
+    most: u64,
+) -> ((u64, u64, Idle<u64>), (u64, u64, Idle<u64>))
     requires sync { IsSync R.row }
     requires segment { (a.seat.table_id ≡ segment.now.table.shared.table_id)
         × (b.seat.table_id ≡ segment.now.table.shared.table_id) }
+    ensures segment { (result.0.2.seat.table_id ≡ segment.now.table.shared.table_id)
+        × (result.1.2.seat.table_id ≡ segment.now.table.shared.table_id) }
 {
-    let (x, y) = join(
+    join(
         rt,
-        move || -> (u64, u64)
+        move || -> (u64, u64, Idle<u64>)
             requires { a.seat.table_id ≡ segment.now.table.shared.table_id }
-        { receive_all(rt, segment, a) },
-        move || -> (u64, u64)
+            ensures { result.2.seat.table_id ≡ segment.entry.now.table.shared.table_id }
+        { receive_all(rt, segment, a, most) },
+        move || -> (u64, u64, Idle<u64>)
             requires { b.seat.table_id ≡ segment.now.table.shared.table_id }
-        { receive_all(rt, segment, b) },
-    );
-    (x.0.wrapping_add(y.0), x.1.wrapping_add(y.1))
+            ensures { result.2.seat.table_id ≡ segment.entry.now.table.shared.table_id }
+        { receive_all(rt, segment, b, most) },
+    )
 }
 
-/// Two threads send so many values each, and two receive until the end. Returns how many were received, and their sum.
+/// Two threads send so many values each, and two receive at most so many each. The hub takes all passes back, and ends
+/// the segment. Returns how many were received, how many were left, and the sum of all.
 fn run_four<R: Threads + Wait + Sync>(
     rt: &R,
     alloc: Global,
     many: u64,
-) -> Result<(u64, u64), AllocError> {
+    most: u64,
+) -> Result<(u64, u64, u64), AllocError> {
     let (segment, mut hub) = Segment::<u64>::new(alloc, 40000)?;
     let w = &segment;
     let a = w.issue(&mut hub).rest();
     let b = w.issue(&mut hub).rest();
     let c = w.issue(&mut hub).rest();
     let d = w.issue(&mut hub).rest();
-    let (got, ()) = join(
+    let ((x, y), (c, d)) = join(
         rt,
-        move || -> (u64, u64)
+        move || -> ((u64, u64, Idle<u64>), (u64, u64, Idle<u64>))
             requires { IsSync R.row × (a.seat.table_id ≡ w.now.table.shared.table_id)
                 × (b.seat.table_id ≡ w.now.table.shared.table_id) }
-        { receive_both(rt, w, a, b) },
-        move ||
+            ensures { (result.0.2.seat.table_id ≡ w.entry.now.table.shared.table_id)
+                × (result.1.2.seat.table_id ≡ w.entry.now.table.shared.table_id) }
+        { receive_both(rt, w, a, b, most) },
+        move || -> (Idle<u64>, Idle<u64>)
             requires { IsSync R.row × (c.seat.table_id ≡ w.now.table.shared.table_id)
                 × (d.seat.table_id ≡ w.now.table.shared.table_id) }
+            ensures { (result.0.seat.table_id ≡ w.entry.now.table.shared.table_id)
+                × (result.1.seat.table_id ≡ w.entry.now.table.shared.table_id) }
         { send_both(rt, w, c, d, many) },
     );
-    Ok(got)
+    segment.take_back(&mut hub, x.2.pass());
+    segment.take_back(&mut hub, y.2.pass());
+    segment.take_back(&mut hub, c.pass());
+    segment.take_back(&mut hub, d.pass());
+    let (count, sum) = add_up(segment.end(hub));
+    Ok((
+        x.0.wrapping_add(y.0),
+        count,
+        x.1.wrapping_add(y.1).wrapping_add(sum),
+    ))
+}
+
+/// How many values are left, and their sum.
+fn add_up(mut left: Left<u64>) -> (u64, u64) {
+    let mut count: u64 = 0;
+    let mut sum: u64 = 0;
+    for _ in 0..u64::MAX {
+        match left.next() {
+            None => break,
+            Some(value) => {
+                count = count.wrapping_add(1);
+                sum = sum.wrapping_add(value);
+            }
+        }
+    }
+    (count, sum)
 }
 
 #[test]
 fn two_send_and_two_receive(rt: HostRuntime) -> Result<(), Fail> {
-    let (count, sum) = run_four(&rt, rt.alloc(), 20000)?;
-    assert!(rt; count == 40000);
-    assert!(rt; sum == 399980000);
+    let all = run_four(&rt, rt.alloc(), 20000, 40000)?;
+    assert!(rt; all == (40000, 0, 399980000));
+    Ok(())
+}
+
+#[test]
+fn the_end_has_what_two_receivers_left(rt: HostRuntime) -> Result<(), Fail> {
+    let all = run_four(&rt, rt.alloc(), 20000, 15000)?;
+    assert!(rt; all == (30000, 10000, 399980000));
+    Ok(())
+}
+
+/// One thread receives a value, which another sends after a pause.
+fn run_two<R: Threads + Wait + Clock + Sync>(
+    rt: &R,
+    alloc: Global,
+    pause: Duration,
+) -> Result<u64, AllocError> {
+    let (segment, mut hub) = Segment::<u64>::new(alloc, 4)?;
+    let w = &segment;
+    let a = w.issue(&mut hub).rest();
+    let b = w.issue(&mut hub).rest();
+    let (x, y) = join(
+        rt,
+        move || -> (u64, u64, Idle<u64>)
+            requires { a.seat.table_id ≡ w.now.table.shared.table_id }
+        { receive_all(rt, w, a, 1) },
+        move || -> Idle<u64>
+            requires { b.seat.table_id ≡ w.now.table.shared.table_id }
+        {
+            sleep(rt, pause);
+            send_all(rt, w, b, 1)
+        },
+    );
+    drop(x.2);
+    drop(y);
+    Ok(x.0)
+}
+
+/// It hangs if who gives the token wakes no thread.
+#[test]
+fn a_sleeper_is_woken(rt: HostRuntime) -> Result<(), Fail> {
+    let count = run_two(&rt, rt.alloc(), Duration::from_millis(50))?;
+    assert!(rt; count == 1);
     Ok(())
 }
 

@@ -7,10 +7,15 @@ pub struct Spot<T> {
     pub value: T,
 }
 
-/// What a pass sent and what it received, each in the order of the positions.
+/// What a pass sent and what it received, each in the order of the positions, and whether it cut the segment.
 pub struct Account<T> {
     pub sent: LinkedList<Spot<T>>,
     pub got: LinkedList<Spot<T>>,
+    pub cut: bool,
+    /// For each send, how many positions the pass knew to be drawn when it drew. For each receive, how many it knew to
+    /// be claimed when it claimed.
+    pub sent_knew: LinkedList<u64>,
+    pub got_knew: LinkedList<u64>,
 }
 
 /// Who holds the view.
@@ -58,11 +63,20 @@ pub struct Sight {
     pub full: bool,
     /// The segment is cut.
     pub cut: bool,
+    /// At a moment at which as many positions as this were drawn, all of them were claimed.
+    pub empty: u64,
+}
+
+/// What a pass has learned by its own calls: as many positions as this are drawn, and claimed.
+pub struct Known {
+    pub drawn: u64,
+    pub taken: u64,
 }
 
 pub struct View<T> {
     pub role: Role,
     pub account: Account<T>,
+    pub known: Known,
     pub half: Half<T>,
     pub duty: Duty,
     pub sight: Sight,

@@ -1,8 +1,8 @@
 //! The calls that wait: one send, and one receive that sleeps until a value comes.
 ghost use Rattle.std.specs.Prelude.{IfErr, IfNone, IfOk, IfSome, [], false, true, ℕ, ◌+◌, ◌++◌, ◌<◌, ◌∷◌, ◌≡◌, ◌⊎◌};
-ghost use Rattle.mb_segment.specs.{Becomes, IsCalm, IsFree, IsStill, Member, Nothing, OfFound, OfReceived, bare, calm};
-ghost use Rattle.mb_segment.specs.{done, ended, enters, falls_asleep, gives_up, got_at, has_closed, has_woken, held_by};
-ghost use Rattle.mb_segment.specs.{leaves, looked, sent_at, told, took, value_of, view_in, wakes_up, with_duty};
+ghost use Rattle.mb_segment.specs.{Becomes, IsCalm, IsFree, IsStill, Member, Nothing, OfFound, OfNotSent, OfReceived};
+ghost use Rattle.mb_segment.specs.{SawAllTaken, bare, calm, did_cut, done, ended, enters, falls_asleep, gives_up, got_at, has_closed, has_woken, held_by};
+ghost use Rattle.mb_segment.specs.{leaves, looked, sees_cut, sent_at, told, took, value_of, view_in, wakes_up, with_duty};
 
 use crate::answers::{Cut, Draw, Leave, Look, Rest, Wake};
 use crate::segment::{Pass, Segment};
@@ -26,7 +26,7 @@ pub enum Received<T> {
     Value(T),
     /// Each position drawn is claimed, and no more will be drawn.
     Over,
-    /// The deadline came first.
+    /// The deadline came first. At a moment of this call all was claimed that the pass had sent or seen marked.
     TimedOut,
 }
 
@@ -85,7 +85,8 @@ impl<T: Drop, A: Allocator + Drop> Segment<T, A> {
             × (bare (view_in pass.new) ≡ sent_at at value (calm (view_in pass.old)))) }
         ensures refused { IfErr result (λ e. (value_of e ≡ value)
             × (bare (view_in pass.new) ≡ calm (view_in pass.old))
-            × (((view_in pass.new).sight.full ≡ true) ⊎ ((view_in pass.new).sight.cut ≡ true))) }
+            × OfNotSent e ((view_in pass.new).sight.full ≡ true)
+            ((view_in pass.new).sight.cut ≡ true)) }
         ensures free { IsFree pass.new }
     {
         for _ in rt.forever() {
@@ -112,7 +113,8 @@ impl<T: Drop, A: Allocator + Drop> Segment<T, A> {
         requires segment { pass.old.seat.table_id ≡ self.now.table.shared.table_id }
         requires free { IsFree pass.old }
         ensures pass { IsStill pass.old pass.new }
-        ensures same { Becomes pass.old pass.new (view_in pass.old) }
+        ensures cut { Becomes pass.old pass.new (sees_cut (view_in pass.old))
+            ⊎ Becomes pass.old pass.new (did_cut (view_in pass.old)) }
     {
         for _ in rt.forever() {
             match self.cut(pass) {
@@ -137,7 +139,8 @@ impl<T: Drop, A: Allocator + Drop> Segment<T, A> {
         ensures answer { OfFound result
             (λ x. (at : ℕ)
             × (bare (view_in pass.new) ≡ got_at at x (with_duty looked (bare (view_in pass.old)))))
-            (bare (view_in pass.new) ≡ with_duty looked (bare (view_in pass.old)))
+            ((bare (view_in pass.new) ≡ with_duty looked (bare (view_in pass.old)))
+            × SawAllTaken (view_in pass.new))
             (bare (view_in pass.new) ≡ told (with_duty looked (bare (view_in pass.old)))) }
     {
         for _ in rt.forever() {
@@ -166,7 +169,8 @@ impl<T: Drop, A: Allocator + Drop> Segment<T, A> {
         ensures answer { OfFound result
             (λ x. (at : ℕ)
             × (bare (view_in pass.new) ≡ got_at at x (with_duty done (bare (view_in pass.old)))))
-            (bare (view_in pass.new) ≡ with_duty falls_asleep (bare (view_in pass.old)))
+            ((bare (view_in pass.new) ≡ with_duty falls_asleep (bare (view_in pass.old)))
+            × SawAllTaken (view_in pass.new))
             (bare (view_in pass.new) ≡ told (with_duty done (bare (view_in pass.old)))) }
     {
         for _ in rt.forever() {
@@ -313,10 +317,11 @@ impl<T: Drop, A: Allocator + Drop> Segment<T, A> {
         ensures answer { OfReceived result
             (λ x. (at : ℕ) × (bare (view_in pass.new) ≡ got_at at x (calm (view_in pass.old))))
             (bare (view_in pass.new) ≡ told (calm (view_in pass.old)))
-            (bare (view_in pass.new) ≡ calm (view_in pass.old)) }
+            ((bare (view_in pass.new) ≡ calm (view_in pass.old)) × SawAllTaken (view_in pass.new)) }
         ensures free { IsFree pass.new }
     {
         for _ in rt.forever() {
+            // A value that is there is taken without the list.
             match self.find(rt, pass) {
                 Found::Value(value) => return Received::Value(value),
                 Found::Over => return Received::Over,

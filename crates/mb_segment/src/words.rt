@@ -1,12 +1,12 @@
 //! Each atomic step on the numbers drawn and claimed, and on the state of a position.
 ghost use Rattle.std.specs.Prelude.{List, None, Option, Some, [], ℕ, ◌%◌, ◌+◌, ◌<◌, ◌∷◌, ◌≡◌, ◌≢◌, ◌≤◌};
-ghost use Rattle.mb_segment.specs.{Becomes, IsStill, Member, Nothing, Reads, Spot, Writes, done, drew, ended, falls_asleep};
-ghost use Rattle.mb_segment.specs.{held_by, looked, owes_all, owes_wake, sees_cut, sees_full, sees_mark, sees_taken};
-ghost use Rattle.mb_segment.specs.{spot, told, took, view_in, with_duty};
+ghost use Rattle.mb_segment.specs.{Becomes, IsStill, Member, Nothing, SawAllTaken, Spot, did_cut, done, drew, falls_asleep};
+ghost use Rattle.mb_segment.specs.{held_by, looked, owes_all, owes_wake, sees_cut, sees_empty, sees_full, sees_mark};
+ghost use Rattle.mb_segment.specs.{sees_taken, told, took, view_in, with_duty};
 
 use crate::effects::{Done, FallsAsleep, Looked, OwesAll, OwesWake};
 use crate::rule::{
-    Asks, Claims, Draws, Ends, Exchanges, Looks, Position, SeesMark, SeesTaken, Value,
+    Asks, Claims, Cuts, Draws, Looks, Position, SeesCut, SeesMark, SeesTaken, Value,
 };
 use crate::segment::{Pass, Segment};
 use std::alloc::Allocator;
@@ -16,8 +16,11 @@ const DRAWN: usize = 0;
 
 const TAKEN: usize = 1;
 
+/// The bit of the number drawn that says that the segment is cut.
+pub(crate) const CUT: u64 = 9223372036854775808;
+
 /// The word of a position's state.
-fn state_of(at: u64) -> usize
+pub(crate) fn state_of(at: u64) -> usize
     requires { at < 4294967296 }
     ensures { result ≡ at + 3 }
 {
@@ -92,36 +95,32 @@ impl<T: Drop, A: Allocator + Drop> Segment<T, A> {
             .compare_exchange::<Draws<OwesAll, X>>(&mut pass.seat, DRAWN, at, new)
     }
 
-    /// Cuts the segment, if as many positions are drawn as were seen.
+    /// Looks whether the segment is cut.
+    pub(crate) fn load_to_cut(&self, pass: &mut Pass<T>) -> u64
+        requires segment { pass.old.seat.table_id ≡ self.now.table.shared.table_id }
+        ensures pass { IsStill pass.old pass.new }
+        ensures cut { 9223372036854775808 ≤ result
+            → Becomes pass.old pass.new (sees_cut (view_in pass.old)) }
+        ensures open { result < 9223372036854775808
+            → Becomes pass.old pass.new (view_in pass.old) }
+    {
+        self.table.shared.load::<SeesCut>(&mut pass.seat, DRAWN)
+    }
+
+    /// Cuts the segment, if as many positions are drawn as were seen. The pass then owes tokens to all that wait.
     pub(crate) fn cut_from(&self, pass: &mut Pass<T>, seen: u64, new: u64) -> u64
         requires segment { pass.old.seat.table_id ≡ self.now.table.shared.table_id }
+        requires member { (view_in pass.old).role ≡ Member }
         requires open { seen < 9223372036854775808 }
         requires new { new ≡ seen + 9223372036854775808 }
         ensures pass { IsStill pass.old pass.new }
         ensures cut { result ≡ seen
-            → Becomes pass.old pass.new (with_duty owes_all (view_in pass.old)) }
+            → Becomes pass.old pass.new (with_duty owes_all (did_cut (view_in pass.old))) }
         ensures missed { result ≢ seen → Becomes pass.old pass.new (view_in pass.old) }
     {
         self.table
             .shared
-            .compare_exchange::<Exchanges<OwesAll>>(&mut pass.seat, DRAWN, seen, new)
-    }
-
-    /// Writes the value that the position was drawn for, and marks it. The slot goes back.
-    pub(crate) fn mark_at(&self, pass: &mut Pass<T>, at: u64, value: T)
-        requires segment { pass.old.seat.table_id ≡ self.now.table.shared.table_id }
-        requires member { (view_in pass.old).role ≡ Member }
-        requires drawn { (view_in pass.old).half ≡ Writes (spot at value) }
-        requires within { at < self.now.size }
-        requires held { held_by pass.old ≡ (at, None) ∷ [] }
-        ensures pass { IsStill pass.old pass.new }
-        ensures marked { view_in pass.new ≡ ended (view_in pass.old) }
-        ensures held { held_by pass.new ≡ [] }
-    {
-        *pass.seat.slot_mut(&self.table.shared, at as usize) = Some(value);
-        self.table
-            .shared
-            .store::<Ends>(&mut pass.seat, state_of(at), 1);
+            .compare_exchange::<Cuts>(&mut pass.seat, DRAWN, seen, new)
     }
 
     // ---- claims
@@ -156,7 +155,8 @@ impl<T: Drop, A: Allocator + Drop> Segment<T, A> {
             → Becomes pass.old pass.new (view_in pass.old) }
         ensures empty { result % 9223372036854775808 ≤ (view_in pass.old).sight.low
             → result < self.now.size
-            → Becomes pass.old pass.new (with_duty looked (view_in pass.old)) }
+            → Becomes pass.old pass.new (sees_empty result (with_duty looked (view_in pass.old)))
+            × SawAllTaken (view_in pass.new) }
         ensures over { result % 9223372036854775808 ≤ (view_in pass.old).sight.low
             → self.now.size ≤ result
             → Becomes pass.old pass.new (told (with_duty looked (view_in pass.old))) }
@@ -175,7 +175,9 @@ impl<T: Drop, A: Allocator + Drop> Segment<T, A> {
             → Becomes pass.old pass.new (view_in pass.old) }
         ensures empty { result % 9223372036854775808 ≤ (view_in pass.old).sight.low
             → result < self.now.size
-            → Becomes pass.old pass.new (with_duty falls_asleep (view_in pass.old)) }
+            → Becomes pass.old pass.new
+            (sees_empty result (with_duty falls_asleep (view_in pass.old)))
+            × SawAllTaken (view_in pass.new) }
         ensures over { result % 9223372036854775808 ≤ (view_in pass.old).sight.low
             → self.now.size ≤ result
             → Becomes pass.old pass.new (told (with_duty done (view_in pass.old))) }
@@ -220,27 +222,5 @@ impl<T: Drop, A: Allocator + Drop> Segment<T, A> {
         self.table
             .shared
             .compare_exchange::<Claims<Done>>(&mut pass.seat, TAKEN, at, new)
-    }
-
-    /// Takes the value of a position that the pass claimed, and says that it is read. The slot goes back.
-    pub(crate) fn finish_read(&self, pass: &mut Pass<T>, at: u64) -> T
-        requires segment { pass.old.seat.table_id ≡ self.now.table.shared.table_id }
-        requires member { (view_in pass.old).role ≡ Member }
-        requires claimed { (x : T) × ((view_in pass.old).half ≡ Reads (spot at x))
-            × (held_by pass.old ≡ (at, Some x) ∷ []) }
-        requires within { at < self.now.size }
-        ensures pass { IsStill pass.old pass.new }
-        ensures value { (view_in pass.old).half ≡ Reads (spot at result) }
-        ensures read { view_in pass.new ≡ ended (view_in pass.old) }
-        ensures held { held_by pass.new ≡ [] }
-    {
-        let value = pass.seat.slot_mut(&self.table.shared, at as usize).take();
-        self.table
-            .shared
-            .store::<Ends>(&mut pass.seat, state_of(at), 2);
-        match value {
-            Some(value) => value,
-            None => unreachable!(),
-        }
     }
 }

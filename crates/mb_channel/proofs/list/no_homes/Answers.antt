@@ -6,5 +6,6 @@ returns g c = (
   c.none.result,
   c.in_ok-push.ensures.items ∙ ap
       (λ l. l ++ c.none.result ∷ []) c.new-homes.ensures.items,
-  c.none.ensures,
+  c.none.ensures.0,
+  c.none.ensures.1,
 )

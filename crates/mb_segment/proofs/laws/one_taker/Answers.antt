@@ -1,8 +1,8 @@
 use Rattle.mb_segment.proofs.Base.{ap, arith, get_elem?, some-injective, sym, ◌∙◌, ◌≡◌}
 use Rattle.mb_segment.specs.Vocabulary.{Claim, Entry, all_entries}
-use Rattle.mb_segment.proofs.Spots.{at_below, entry_of}
+use Rattle.mb_segment.proofs.Spots.{all_length, at_below, entry_of}
 use Rattle.mb_segment.proofs.Kept.{at1}
-use Rattle.mb_segment.proofs.Places.{is_claimed, is_drawn}
+use Rattle.mb_segment.proofs.Places.{claimed_by, drawn_by, drawn_is, is_claimed, is_drawn}
 use Rattle.mb_segment.proofs.laws.one_taker.Goals as goal
 
 pub returns-clause-taker : goal.returns-clause-taker
@@ -35,4 +35,12 @@ returns-clause-same g c s k i j u v p x y at at' has has' =
     sym a.5 ∙ (ap (λ (e : Entry _). e.value) one ∙ b.5)
 
 pub returns-clause-beginning : goal.returns-clause-beginning
-returns-clause-beginning g c s k p lt = let t = at1 s k in at_below k.history.claims p (omega arith)
+returns-clause-beginning g c s k p lt =
+    let t = at1 s k in let b = at_below k.history.claims p (omega arith) in
+    (b.0, b.1, claimed_by s k p b.0 b.1)
+
+pub returns-clause-drawn : goal.returns-clause-drawn
+returns-clause-drawn g c s k p lt =
+    let d = drawn_is s k in let l = all_length k.history in
+    let b = at_below (all_entries k.history) p (omega arith) in
+    (b.0, b.1, drawn_by s k p b.0 b.1)

@@ -1,9 +1,9 @@
-use Rattle.mb_segment.proofs.Base.{ap, arith, length, slice_index, ◌-◌, ◌≡◌}
+use Rattle.mb_segment.proofs.Base.{ap, arith, length, slice_index, ⊎_elim, ◌-◌, ◌<◌, ◌≡◌}
 use Rattle.mb_segment.specs.Vocabulary.{drawn}
 use Rattle.mb_segment.proofs.Spots.{nothing_left}
 use Rattle.mb_segment.proofs.Kept.{at0, at1}
 use Rattle.mb_segment.proofs.LookMoves.{all_drawn}
-use Rattle.mb_segment.proofs.Places.{drawn_is}
+use Rattle.mb_segment.proofs.Places.{drawn_is, has_below}
 use Rattle.mb_segment.proofs.laws.over_is_true.Goals as goal
 
 pub returns-clause-empty : goal.returns-clause-empty
@@ -22,6 +22,12 @@ returns-clause-over g c s k n v at on =
       omega arith,
       f.1,
     )
+
+pub returns-clause-taken : goal.returns-clause-taken
+returns-clause-taken g c s k n v p x at saw known =
+    let e = (k.fits n v at).empty in let t = at1 s k in
+    let below : p < v.sight.empty = ⊎_elim (has_below v.sight.empty p x v.account.sent saw.0) (saw.1 p) known in
+    omega arith
 
 pub returns-clause-full : goal.returns-clause-full
 returns-clause-full g c s k n v at on =

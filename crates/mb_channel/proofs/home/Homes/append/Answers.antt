@@ -5,6 +5,6 @@ pub returns-clause-more : goal.returns-clause-more
 returns-clause-more g c = (
   c.in_ok-home.home,
   c.in_ok-home.ensures,
-  c.push_reserved.ensures.items ∙ ap
+  c.push_back_reserved.ensures.items ∙ ap
       (λ l. l ++ c.in_ok-home.home ∷ []) c.reserve.ensures.items,
 )

@@ -1,7 +1,8 @@
 use Rattle.std.proofs.Common.{sym, ap, ◌∙◌, ◌∷◌, subst, inl}
 use Rattle.atomic_table.specs.Table.{rest}
-use Rattle.mb_channel.specs.Homes.{Longer}
-use Rattle.mb_channel.proofs.Chairs.{longer_of, only_one, was}
+use Rattle.mb_channel.specs.Homes.{Longer, Stands}
+use Rattle.mb_channel.proofs.Chairs.{only_one, was}
+use Rattle.mb_channel.proofs.Freed.{longer_of}
 use Rattle.mb_channel.proofs.list.List.add_home.Goals as goal
 
 pub slot_mut-homes-requires : goal.slot_mut-homes-requires
@@ -14,17 +15,27 @@ slot_mut-homes-requires g c = let t = c.requires.homes in (
   ),
 )
 
-pub returns-then-at-len-clause-homes : goal.returns-then-at-len-clause-homes
-returns-then-at-len-clause-homes g c = let t = c.requires.homes in
-    let same = was c.args.chair.now.me.1 t.0 c.slot_mut-homes.result.now t.1 c.slot_mut-homes.ensures.value ∙ t.2 in (
+pub returns-then-at-homes-clause-homes : goal.returns-then-at-homes-clause-homes
+returns-then-at-homes-clause-homes g c = let t = c.requires.homes in
+    let now = c.slot_mut-homes.result.now in
+    let same = was c.args.chair.now.me.1 t.0 now t.1 c.slot_mut-homes.ensures.value in
+    (now, only_one c.args.chair.now.me.1 t.0 now t.1, t.2, subst (λ l. Stands t.2 l) (sym same) t.3, inl t.4)
+
+pub returns-then-at-homes-2-clause-homes : goal.returns-then-at-homes-2-clause-homes
+returns-then-at-homes-2-clause-homes g c = let t = c.requires.homes in
+    let now = c.slot_mut-homes.result.now in
+    let same = was c.args.chair.now.me.1 t.0 now t.1 c.slot_mut-homes.ensures.value in
+    let r = longer_of c.append.result t.2 now c.append.new.self (subst (λ l. Stands t.2 l) (sym same) t.3)
+    c.append.ensures.more c.append.ensures.same c.append.ensures.first in (
       c.append.new.self,
       only_one c.args.chair.now.me.1 t.0 c.append.new.self t.1,
-      subst (λ hs. Longer hs c.append.new.self.list.items) same
-          (longer_of c.append.result c.slot_mut-homes.result.now.list.items c.append.new.self.list.items
-          c.append.ensures.more c.append.ensures.same),
+      r.0,
+      r.1,
+      subst (λ b. Longer b r.0) t.4 r.2,
     )
 
-pub returns-else-at-len-clause-homes : goal.returns-else-at-len-clause-homes
-returns-else-at-len-clause-homes g c = let t = c.requires.homes in
-    let same = was c.args.chair.now.me.1 t.0 c.slot_mut-homes.result.now t.1 c.slot_mut-homes.ensures.value ∙ t.2 in
-    (c.slot_mut-homes.result.now, only_one c.args.chair.now.me.1 t.0 c.slot_mut-homes.result.now t.1, inl same)
+pub returns-else-at-homes-2-clause-homes : goal.returns-else-at-homes-2-clause-homes
+returns-else-at-homes-2-clause-homes g c = let t = c.requires.homes in
+    let now = c.slot_mut-homes.result.now in
+    let same = was c.args.chair.now.me.1 t.0 now t.1 c.slot_mut-homes.ensures.value in
+    (now, only_one c.args.chair.now.me.1 t.0 now t.1, t.2, subst (λ l. Stands t.2 l) (sym same) t.3, inl t.4)

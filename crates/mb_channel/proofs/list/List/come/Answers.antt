@@ -1,51 +1,85 @@
-use Rattle.std.proofs.Common.{ℕ, List, sym, ap, ◌∙◌, subst, arith, inl}
-use Rattle.std.specs.Prelude.{get_or}
-use lib.ListN.{get_elem?}
-use Rattle.mb_channel.specs.declared.home.Homes.{Homes}
+use Rattle.std.proofs.Common.{sym, ap, ◌∙◌, ◌<◌, subst, inl}
 use Rattle.mb_channel.specs.declared.view.Knows.{Knows}
-use Rattle.mb_channel.specs.Homes.{Changes, HasIssued, came_to, unlocked}
-use Rattle.mb_channel.proofs.Chairs.{came_where, comes_list}
+use Rattle.mb_channel.specs.Homes.{Changes, HasIssued, IsNext, came_to, unlocked, went_on}
+use Rattle.mb_channel.proofs.Chairs.{came_where}
 use Rattle.mb_channel.proofs.list.List.come.Goals as goal
 
 pub get_pass-requires-clause-homes : goal.get_pass-requires-clause-homes
 get_pass-requires-clause-homes g c = let x = c.try_lock.ensures.locked c.if-not-try_lock.false in
-    (x.0, x.1, sym (ap (λ (v : Knows _). v.before) x.2.1))
+    (x.0, x.1, x.2, x.3, sym (ap (λ (v : Knows _). v.before) x.4.1))
 
-pub store-requires : goal.store-requires
-store-requires g c = let shape = c.args.self.now.shape in let x = c.try_lock.ensures.locked c.if-not-try_lock.false in
-    let y = c.in-Some.ensures.some.0 in
-    let same = c.get_pass.ensures.view ∙ x.2.1 in (
-      c.get_pass.ensures.list.0 ∙ c.try_lock.ensures.list.0 ∙ c.requires.list,
-      omega (arith, shape.0),
-      comes_list g.B.Side.takes c.args.self.now.table.shared.table_id.slots c.get_pass.new.chair.id
-          c.get_pass.new.chair.me y.0 y.1
-          (ap (λ (v : Knows _). v.live) same ∙ c.requires.ready.0) (ap (λ (v : Knows _). v.holds) same)
-          (subst (λ (z : Knows _). Changes z.before y.0.list.items z.at HasIssued) (sym same)
-          (subst (λ n. Changes x.0.list.items y.0.list.items n HasIssued) (sym c.requires.here)
-          (subst (λ l. Changes l y.0.list.items c.args.at HasIssued) (ap (λ (v : Knows _). v.before) x.2.1) y.2.0)))
-          (λ q. ap (λ (v : Knows _). v.takes) same ∙ c.requires.side q),
+pub enter-requires-clause-held : goal.enter-requires-clause-held
+enter-requires-clause-held g c = let x = c.try_lock.ensures.locked c.if-not-try_lock.false in
+    let same = c.get_pass.ensures.view ∙ x.4.1 in (
+      ap (λ (v : Knows _). v.live) same ∙ c.requires.ready.0,
+      ap (λ (v : Knows _). v.holds) same,
+      ap (λ (v : Knows _). v.inside) same ∙ c.requires.here.1,
+    )
+
+pub enter-requires-clause-issued : goal.enter-requires-clause-issued
+enter-requires-clause-issued g c = let x = c.try_lock.ensures.locked c.if-not-try_lock.false in
+    let y = c.in-Here.ensures.answer.0 in (
+      y.0,
+      y.1,
+      y.2,
+      y.3,
+      subst (λ (z : Knows _). Changes z.before y.2 z.at (λ h g. HasIssued h g c.in-Here.segment c.in-Here.pass))
+          (sym c.get_pass.ensures.view)
+          (subst (λ n. Changes c.try_lock.new.chair.me.0.before y.2 n (λ h g. HasIssued h g c.in-Here.segment
+          c.in-Here.pass)) (sym (ap (λ (v : Knows _). v.at) x.4.1 ∙ c.requires.here.0)) y.4),
+    )
+
+pub enter-requires-clause-side : goal.enter-requires-clause-side
+enter-requires-clause-side g c = let x = c.try_lock.ensures.locked c.if-not-try_lock.false in
+    λ q. ap (λ (v : Knows _). v.takes) (c.get_pass.ensures.view ∙ x.4.1) ∙ c.requires.side q
+
+pub go_on-requires-clause-held : goal.go_on-requires-clause-held
+go_on-requires-clause-held g c = let x = c.try_lock.ensures.locked c.if-not-try_lock.false in
+    let same = c.get_pass.ensures.view ∙ x.4.1 in (
+      ap (λ (v : Knows _). v.live) same ∙ c.requires.ready.0,
+      ap (λ (v : Knows _). v.holds) same,
+      ap (λ (v : Knows _). v.inside) same ∙ c.requires.here.1,
+    )
+
+pub go_on-requires-clause-homes : goal.go_on-requires-clause-homes
+go_on-requires-clause-homes g c = let y = c.in-Gone.ensures.answer.0 in
+    (y.0, y.1, y.2, y.3, y.4 ∙ ap (λ (v : Knows _). v.before) (sym c.get_pass.ensures.view))
+
+pub go_on-requires-clause-far : goal.go_on-requires-clause-far
+go_on-requires-clause-far g c = let x = c.try_lock.ensures.locked c.if-not-try_lock.false in
+    let a = c.in-Gone.ensures.answer in
+    let same = c.get_pass.ensures.view ∙ x.4.1 in (
+      subst (λ n. n < c.in-Gone.first) (sym (ap (λ (v : Knows _). v.at) same ∙ c.requires.here.0)) a.1,
+      subst (λ b. IsNext b c.in-Gone.first) (ap (λ (v : Knows _). v.before) (sym c.get_pass.ensures.view)) a.2,
     )
 
 pub unlock-requires-clause-homes : goal.unlock-requires-clause-homes
-unlock-requires-clause-homes g c = let y = c.in-None.ensures.none in
-    (y.0, y.1, inl (y.2 ∙ ap (λ (v : Knows _). v.before) (sym c.get_pass.ensures.view)))
+unlock-requires-clause-homes g c = let y = c.in-NotYet.ensures.answer in
+    (y.0, y.1, y.2, y.3, inl (y.4 ∙ ap (λ (v : Knows _). v.before) (sym c.get_pass.ensures.view)))
 
-pub returns-in-Some-clause-came : goal.returns-in-Some-clause-came
-returns-in-Some-clause-came g c = let x = c.try_lock.ensures.locked c.if-not-try_lock.false in
-    let r = c.in-Some.ensures.some in let y = r.0 in
-    let same = c.get_pass.ensures.view ∙ x.2.1 in
-    let tells = c.store.ensures.2 in
-    let items = ap (λ (k : List (ℕ × Homes _)). (get_or k 0 (0, y.0)).1.list.items) (sym tells.2 ∙ y.1) in (
-      tells.0,
-      tells.5,
-      tells.4 ∙ ap (λ (z : Knows _). came_to tells.0 g.B.Side.takes (unlocked z)) same,
-      (
-        tells.0.segment,
-        ap (λ (v : Knows _). v.place) tells.4,
-        came_where y.0.list.items c.get_pass.new.chair.me.0.at c.args.at tells.0 c.in-Some.pass
-            (ap (λ (v : Knows _). v.at) same ∙ c.requires.here) (ap (λ l. get_elem? l c.get_pass.new.chair.me.0.at)
-            (sym items) ∙ tells.3) y.2.1,
-      ),
-      r.1,
-      r.2,
+pub unlock-requires-in-Crowded-clause-homes : goal.unlock-requires-in-Crowded-clause-homes
+unlock-requires-in-Crowded-clause-homes g c = let y = c.in-Crowded.ensures.answer in
+    (y.0, y.1, y.2, y.3, inl (y.4 ∙ ap (λ (v : Knows _). v.before) (sym c.get_pass.ensures.view)))
+
+pub unlock-requires-in-Locked-clause-homes : goal.unlock-requires-in-Locked-clause-homes
+unlock-requires-in-Locked-clause-homes g c = let y = c.in-Locked.ensures.answer in
+    (y.0, y.1, y.2, y.3, inl (y.4 ∙ ap (λ (v : Knows _). v.before) (sym c.get_pass.ensures.view)))
+
+pub returns-in-Here-clause-answer : goal.returns-in-Here-clause-answer
+returns-in-Here-clause-answer g c = let x = c.try_lock.ensures.locked c.if-not-try_lock.false in
+    let a = c.in-Here.ensures.answer in let e = c.enter.ensures.view in let y = a.0.4 in (
+      e.1,
+      e.0 ∙ ap (λ (z : Knows _). came_to c.in-Here.segment c.args.takes (unlocked z)) (c.get_pass.ensures.view
+          ∙ x.4.1),
+      came_where c.in-Here.segment c.in-Here.pass y.0 y.1 y.4,
+      a.1,
+      a.2,
+    )
+
+pub returns-in-Gone-clause-answer : goal.returns-in-Gone-clause-answer
+returns-in-Gone-clause-answer g c = let x = c.try_lock.ensures.locked c.if-not-try_lock.false in
+    let a = c.in-Gone.ensures.answer in let e = c.go_on.ensures.view in (
+      a.1,
+      e.1,
+      e.0 ∙ ap (λ (z : Knows _). went_on c.in-Gone.first (unlocked z)) (c.get_pass.ensures.view ∙ x.4.1),
     )

@@ -1,7 +1,8 @@
-use Rattle.std.proofs.Common.{sym, ap, ◌∙◌, ◌∷◌, subst}
+use Rattle.std.proofs.Common.{sym, ap, ◌∙◌, ◌∷◌, subst, arith}
 use Rattle.atomic_table.specs.Table.{rest}
-use Rattle.mb_channel.specs.Homes.{Changes, HasIssued}
+use Rattle.mb_channel.specs.Homes.{Changes, HasIssued, IsNext, Stands}
 use Rattle.mb_channel.proofs.Chairs.{only_one, was}
+use Rattle.mb_channel.proofs.Freed.{changes_all, next_is, stands_same}
 use Rattle.mb_channel.proofs.list.List.get_pass.Goals as goal
 
 pub slot_mut-homes-requires : goal.slot_mut-homes-requires
@@ -14,19 +15,49 @@ slot_mut-homes-requires g c = let t = c.requires.homes in (
   ),
 )
 
-pub returns-then-at-len-clause-some : goal.returns-then-at-len-clause-some
-returns-then-at-len-clause-some g c = let t = c.requires.homes in let p = c.issue.ensures.pass in
-    let same = was c.args.chair.now.me.1 t.0 c.slot_mut-homes.result.now t.1 c.slot_mut-homes.ensures.value ∙ t.2 in (
+pub returns-then-at-homes-clause-answer : goal.returns-then-at-homes-clause-answer
+returns-then-at-homes-clause-answer g c = let t = c.requires.homes in let lt = c.if-at-homes.true in
+    let now = c.slot_mut-homes.result.now in
+    let same = was c.args.chair.now.me.1 t.0 now t.1 c.slot_mut-homes.ensures.value in
+    let s = subst (λ l. Stands t.2 l) (sym same) t.3 in (
+      (now, only_one c.args.chair.now.me.1 t.0 now t.1, t.2, s, t.4),
+      lt,
+      subst (λ x. IsNext x now.first) t.4 (next_is t.2 now s (omega arith)),
+    )
+
+pub returns-in-Some-clause-answer : goal.returns-in-Some-clause-answer
+returns-in-Some-clause-answer g c = let t = c.requires.homes in let ge = c.if-at-homes.false in
+    let now = c.slot_mut-homes.result.now in
+    let same = was c.args.chair.now.me.1 t.0 now t.1 c.slot_mut-homes.ensures.value in
+    let s = subst (λ l. Stands t.2 l) (sym same) t.3 in
+    let p = c.in-Some.ensures.some in
+    let ch = changes_all t.2 now c.issue.new.self c.args.at
+    (λ h g. HasIssued h g c.in-Some.segment c.in-Some.pass) s (omega arith) p.0 c.in-Some.ensures.first in (
       (
         c.issue.new.self,
         only_one c.args.chair.now.me.1 t.0 c.issue.new.self t.1,
-        (subst (λ hs. Changes hs c.issue.new.self.list.items c.args.at HasIssued) same c.issue.ensures.homes, p.0),
+        ch.0,
+        ch.1,
+        subst (λ b. Changes b ch.0 c.args.at (λ h g. HasIssued h g c.in-Some.segment c.in-Some.pass)) t.4 ch.2,
       ),
       p.1,
       p.2,
     )
 
-pub returns-else-at-len-clause-none : goal.returns-else-at-len-clause-none
-returns-else-at-len-clause-none g c = let t = c.requires.homes in
-    let same = was c.args.chair.now.me.1 t.0 c.slot_mut-homes.result.now t.1 c.slot_mut-homes.ensures.value ∙ t.2 in
-    (c.slot_mut-homes.result.now, only_one c.args.chair.now.me.1 t.0 c.slot_mut-homes.result.now t.1, same)
+pub returns-in-None-clause-answer : goal.returns-in-None-clause-answer
+returns-in-None-clause-answer g c = let t = c.requires.homes in
+    let now = c.slot_mut-homes.result.now in
+    let same = was c.args.chair.now.me.1 t.0 now t.1 c.slot_mut-homes.ensures.value in
+    let s = subst (λ l. Stands t.2 l) (sym same) t.3 in (
+      c.issue.new.self,
+      only_one c.args.chair.now.me.1 t.0 c.issue.new.self t.1,
+      t.2,
+      stands_same t.2 now c.issue.new.self s c.in-None.ensures.none c.in-None.ensures.first,
+      t.4,
+    )
+
+pub returns-else-at-homes-2-clause-answer : goal.returns-else-at-homes-2-clause-answer
+returns-else-at-homes-2-clause-answer g c = let t = c.requires.homes in
+    let now = c.slot_mut-homes.result.now in
+    let same = was c.args.chair.now.me.1 t.0 now t.1 c.slot_mut-homes.ensures.value in
+    (now, only_one c.args.chair.now.me.1 t.0 now t.1, t.2, subst (λ l. Stands t.2 l) (sym same) t.3, t.4)

@@ -11,5 +11,10 @@ compare_exchange-requires g c = let shape = c.args.self.now.shape in (
 )
 
 pub returns-clause-locked : goal.returns-clause-locked
-returns-clause-locked g c = λ t. let x = c.compare_exchange.ensures.2.0 (eqb-true c.compare_exchange.result 0 t) in
-    (x.0, ap (λ (m : Sat _). m.1) x.1 ∙ ap (λ l. (0, x.0) ∷ l) c.requires.ready.3, (x.2, ap (λ (m : Sat _). m.0) x.1))
+returns-clause-locked g c = λ t. let x = c.compare_exchange.ensures.2.0 (eqb-true c.compare_exchange.result 0 t) in (
+  x.0,
+  ap (λ (m : Sat _). m.1) x.3 ∙ ap (λ l. (0, x.0) ∷ l) c.requires.ready.3,
+  x.1,
+  x.2,
+  (x.4, ap (λ (m : Sat _). m.0) x.3),
+)

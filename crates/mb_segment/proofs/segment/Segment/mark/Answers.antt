@@ -3,7 +3,7 @@ use Rattle.std.specs.Prelude.{Some}
 use Rattle.atomic_table.specs.Table.{rest}
 use Rattle.mb_segment.specs.Vocabulary.{spot}
 use Rattle.mb_segment.proofs.MarkMoves.{marks}
-use Rattle.mb_segment.proofs.segment.Segment.mark_at.Goals as goal
+use Rattle.mb_segment.proofs.segment.Segment.mark.Goals as goal
 
 pub store-requires : goal.store-requires
 store-requires g c =

@@ -3,7 +3,7 @@ use Rattle.std.specs.Prelude.{Option, Some}
 use Rattle.atomic_table.specs.Table.{rest}
 use Rattle.mb_segment.specs.Vocabulary.{spot}
 use Rattle.mb_segment.proofs.ReadMoves.{reads_end}
-use Rattle.mb_segment.proofs.segment.Segment.finish_read.Goals as goal
+use Rattle.mb_segment.proofs.segment.Segment.read.Goals as goal
 
 pub slot_mut-requires : goal.slot_mut-requires
 slot_mut-requires g c = let r = c.requires in let held = r.claimed.2 in
