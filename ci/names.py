@@ -3,7 +3,7 @@
 
 A word between backticks has to stand in some source, or in the name of a file. In `crate::..::name` that crate has to have the
 name. A path has to be the end of a file's, and a link to lead to a file and heading. In "`function`: `clause`" the function has
-to have that clause. docs/PROMISES.md has to name each mutant. A sentence is text up to a full stop, a question mark or an
+to have that clause. docs/CONTRACTS.md has to name each mutant. A sentence is text up to a full stop, a question mark or an
 exclamation mark before a space; code between backticks is one word of it. The status is 0 if all is well.
 """
 import os
@@ -121,8 +121,8 @@ def too_long(page, text):
 
 def main():
     sources = Sources()
-    promises, mutants = read("docs/PROMISES.md"), [it for it in sources.files if it.endswith(".edit")]
-    told = [f"docs/PROMISES.md: does not name {it}" for it in mutants if f"`{os.path.basename(it)[:-5]}`" not in promises]
+    promises, mutants = read("docs/CONTRACTS.md"), [it for it in sources.files if it.endswith(".edit")]
+    told = [f"docs/CONTRACTS.md: does not name {it}" for it in mutants if f"`{os.path.basename(it)[:-5]}`" not in promises]
     for page in (it for it in sources.files if it.endswith(".md") and "/must-fail/" not in it):
         told += [f"{page}: {it}" for it in too_long(page, read(page))]
         told += [f"{page}: not found: {it}" for it in dict.fromkeys(not_found(page, sources))]

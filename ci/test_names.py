@@ -10,7 +10,7 @@ FILES = {
     "crates/mb_a/src/lib.rt": "// only_said\npub fn one(a: u32)\n    ensures made { a }\n{\n    a\n}\nfn other() {\n}\n",
     "crates/mb_b/src/lib.rt": "fn two() {\n}\n",
     "crates/mb_a/mutants/wrong.edit": "",
-    "docs/PROMISES.md": "# Promises\n\n## mb_a\n\n`one`: `made`. `wrong`\n",
+    "docs/CONTRACTS.md": "# Promises\n\n## mb_a\n\n`one`: `made`. `wrong`\n",
     "README.md": "# Top\n",
 }
 
@@ -27,7 +27,7 @@ class Names(Room):
         return [it.partition(": ")[2] for it in told]
 
     def test_what_is_there_is_found(self):
-        text = "`one` of `src/lib.rt`, `mb_a::lib::one`, `NAME`, [it](docs/PROMISES.md#mb_a), [top](#top)\n"
+        text = "`one` of `src/lib.rt`, `mb_a::lib::one`, `NAME`, [it](docs/CONTRACTS.md#mb_a), [top](#top)\n"
         self.assertEqual(self.told(text), [])
 
     def test_what_is_not_there_is_told(self):
@@ -37,7 +37,7 @@ class Names(Room):
             "`src/gone.rt`": "the path src/gone.rt",
             "`mb_b::one`": "one in mb_b",
             "[it](docs/GONE.md)": "the link docs/GONE.md",
-            "[it](docs/PROMISES.md#gone)": "the link docs/PROMISES.md#gone",
+            "[it](docs/CONTRACTS.md#gone)": "the link docs/CONTRACTS.md#gone",
             "`one`: `two`": "the clause two of `one`",
             "`other`: `made`": "the clause made of `other`",
         }.items():
@@ -50,7 +50,7 @@ class Names(Room):
         twice = f"{words(20)} {words(20)}", f"- {words(20)}\n- {words(20)}"
         for text in (words(30), *twice, "| a | b |\n" * 20, f"`{'a ' * 40}`", "a" * 120):
             self.assertEqual(self.told(f"{text}\n"), [], text)
-        for text in (words(31), f"| {'one ' * 31} | b |", f"See [{words(31)}](docs/PROMISES.md).", "a" * 121):
+        for text in (words(31), f"| {'one ' * 31} | b |", f"See [{words(31)}](docs/CONTRACTS.md).", "a" * 121):
             self.assertEqual(len(self.told(f"{text}\n")), 1, text)
         self.assertEqual(self.told("\n```\n" + "a" * 121 + "\n```\n\n    " + "a" * 121 + "\n\n# " + "a" * 121 + "\n"), [])
 
