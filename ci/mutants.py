@@ -25,8 +25,9 @@ MOST = 40  # mutants of one check
 MEMORY = 3_500_000_000  # bytes: the most that one process of a check has been seen to take, with some room
 LINE = re.compile(r"(refuses|alone|file|old|new): ?(.*)")
 FUNCTION = re.compile(r'^ *(?:pub(?:\([\w ]+\))? )?(?:const |final |ghost |unsafe |extern "C" )*fn (\w+)', re.M)
-# What the prover says if a proof file names what the edit took away, and if it cannot read a text at all.
+# What the prover says if a proof file names what the edit took away.
 LOST = re.compile(r"has no field|is not in scope|has no `|was not admitted|rejected, (?:was|were) not checked")
+# What it says of the edited source, or of specs/, if it cannot read that: then the check judges nothing.
 UNREAD = re.compile(r"is not in scope|has no field|is no name|operand is missing|expected the end|cannot continue")
 
 
