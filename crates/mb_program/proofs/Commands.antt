@@ -2,7 +2,7 @@
 use Rattle.std.proofs.Common.{◌≡◌, inl, inr, subst, Bool, false, List, [], ◌∷◌, true, Option, Some, None, option_map, refl, sym, ap, ◌∙◌, arith, Result, Ok, Err}
 use Rattle.std.proofs.lemmas.Grind.{common_steps}
 use Rattle.std.specs.Prelude.{IfErr, IsErrAnd, IsSome}
-use Rattle.clap.specs.Words.{App, HasKind, IsAmong, Kinds, Text, HasMatchesOf, fault_of, kind_of, subcommand_name_of, subcommand_of, subcommand_rows_of, takes}
+use Rattle.clap.specs.Words.{App, HasKind, IsAmong, Kinds, Text, HasMatchesOf, fault_of, kind_of, subcommand_name_of, subcommand_of, subcommand_rows_of}
 use Rattle.clap.specs.declared.parser.matches.ArgMatches.{ArgMatches}
 use Rattle.clap.specs.declared.error.Error.{Error}
 use Rattle.clap.specs.declared.error.ErrorKind.{ErrorKind}
@@ -14,8 +14,8 @@ use Rattle.mb_program.specs.CommandLine.{IsProgramApp, IsRefusalOf, program, com
 use Rattle.mb_program.proofs.Programs.{commands_same, faults_alike, program_is_simple}
 
 -- ---- a command that stands alone on the command line
--- clap takes a command that stands alone
-pub alone_taken : (name : Text) (choice : Choice) → takes program (name ∷ choice_name choice ∷ []) ≡ true
+-- clap finds no fault in a command that stands alone
+pub alone_taken : (name : Text) (choice : Choice) → fault_of program (name ∷ choice_name choice ∷ []) ≡ []
 unfolding clap_on_literals
 alone_taken name Ratify = refl
 alone_taken name Replay = refl
@@ -42,13 +42,6 @@ alone_named app words m name choice is_program alone matches =
     ((matches (program_is_simple app is_program)).1 ∙ commands_same app words is_program
     ∙ ap (subcommand_of program) alone)
     ∙ alone_found name choice
-
--- ---- two facts of results and options
--- if `?` returns the error that memory ran out, the error of the result has the kind `OutOfMemory`
-pub kind_kept : {X : Type 0} (r : Result X Error) (e : Error) → IsErrAnd r (λ f. f ≡ e) → kind_of e ≡ OutOfMemory
-    → IfErr r (λ f. kind_of f ≡ OutOfMemory)
-kind_kept (Ok x) e same kind = tt
-kind_kept (Err f) e same kind = ap kind_of same ∙ kind
 
 -- an option that is `None` has no value
 pub not_some : {X : Type 0} (r : Option X) → r ≡ None → IsSome r → ⊥
@@ -91,6 +84,15 @@ refused_by words app e is has = elim has [
   | inl none ↦ inl none
   | inr among ↦ inr (inl (subst (λ (kinds : Kinds). IsAmong (kind_of e) kinds) (faults_alike app words is) among))
 ]
+
+-- if clap finds no fault in the words, an error of a kind that its rules give says that memory ran out
+pub only_memory : (words : List Text) (app : App) (e : Error) → IsProgramApp app → fault_of program words ≡ []
+    → HasKind (fault_of app words) e → kind_of e ≡ OutOfMemory
+only_memory words app e is none has =
+    elim (subst (λ (kinds : Kinds). HasKind kinds e) (faults_alike app words is ∙ none) has) [
+      | inl memory ↦ memory
+      | inr among ↦ absurd among
+    ]
 
 -- if the matches of the words give no choice, the words name no command, so `InvalidSubcommand` is a refusal of them
 pub unnamed : (words : List Text) (app : App) (m : ArgMatches) (kind : ErrorKind)

@@ -9,7 +9,6 @@ pub mod Told
 pub mod NumbersGiven
 pub mod ShapesGiven
 pub mod SameWalk
-pub mod SameTakes
 pub mod SameFaults
 pub mod SameProgram
 pub mod Programs

@@ -15,30 +15,30 @@ use Rattle.mb_program.specs.RunOptions.{number_from}
 abbrev most : ℕ
 most = 2 ^ 64 - 1
 
--- if a text spells no number below 2^64, the default is taken
-read_out : (default : ℕ) (t : Text) → (IsUnsignedIn 0 most t → ⊥) → number_from 0 most default (Some t) ≡ default
-read_out default t outside = go (is_unsigned_in 0 most t) refl
+-- if a text spells no number below 2^64, its number is 0
+read_out : (t : Text) → (IsUnsignedIn 0 most t → ⊥) → number_from (Some t) ≡ 0
+read_out t outside = go (is_unsigned_in 0 most t) refl
   where
-    go : (b : Bool) → is_unsigned_in 0 most t ≡ b → number_from 0 most default (Some t) ≡ default
+    go : (b : Bool) → is_unsigned_in 0 most t ≡ b → number_from (Some t) ≡ 0
     go true passed = absurd (outside (accepts-Accepts false (Unsigned 0 most) t passed))
     go false failed = rw failed refl
 
--- what `get_one` returns, or else the default, is the number that the text found by clap spells, or else the default
-pub number_read : (E : Type 0) (G : List ℕ → Result ℕ E → Type 0) (default : ℕ) (f : Found) (id : Text) (r : Option ℕ)
+-- what `get_one` returns, or else 0, is the number that the text found by clap spells, or else 0
+pub number_read : (E : Type 0) (G : List ℕ → Result ℕ E → Type 0) (f : Found) (id : Text) (r : Option ℕ)
     → ((u : List ℕ) (x : Result ℕ E) → G u x → ParsesUnsigned 64 10 u x)
     → (one_text f id ≡ None → r ≡ None) → ((t : Text) → one_text f id ≡ Some t → ReadsOne G t r)
-    → unwrap_or r default ≡ number_from 0 most default (one_of id (rows_of f))
-number_read E G default f id r only none value = rw (← one_text-rows f id) (go (one_text f id) refl)
+    → unwrap_or r 0 ≡ number_from (one_of id (rows_of f))
+number_read E G f id r only none value = rw (← one_text-rows f id) (go (one_text f id) refl)
   where
-    read : (t : Text) (o : Option ℕ) → ReadsOne G t o → unwrap_or o default ≡ number_from 0 most default (Some t)
+    read : (t : Text) (o : Option ℕ) → ReadsOne G t o → unwrap_or o 0 ≡ number_from (Some t)
     read t (Some v) h =
         let parsed = only t (Ok v) h in
         let inside : IsUnsignedIn 0 most t = (parsed.0.0, parsed.0.1, omega arith, omega (arith, parsed.0.1)) in
         rw (Accepts-accepts false (Unsigned 0 most) t inside) parsed.1
     read t None h =
         let parsed = only t (Err h.0) h.1 in
-        sym (read_out default t (λ inside. parsed (inside.0, inside.1)))
+        sym (read_out t (λ inside. parsed (inside.0, inside.1)))
 
-    go : (o : Option Text) → one_text f id ≡ o → unwrap_or r default ≡ number_from 0 most default o
+    go : (o : Option Text) → one_text f id ≡ o → unwrap_or r 0 ≡ number_from o
     go None e = rw (none e) refl
     go (Some t) e = read t r (value t e)

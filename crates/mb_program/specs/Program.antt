@@ -1,7 +1,7 @@
 -- What the program does from its command line to its end.
 use Rattle.std.specs.Prelude.{◌≡◌, ◌≢◌, ◌⊎◌, ℕ, List, [], Bool, Result, Ok, Err, Some, true, false}
 use Rattle.std.specs.Io.KnownBytes.{Appends}
-use Rattle.clap.specs.Words.{Text, fault_of, takes}
+use Rattle.clap.specs.Words.{Text, fault_of}
 use Rattle.clap.specs.declared.error.ErrorKind.{ErrorKind, TheVariants.DisplayHelp, TheVariants.DisplayVersion, TheVariants.OutOfMemory}
 use Rattle.mb_script.specs.declared.fault.Fault.{Fault}
 use Rattle.mb_script.specs.Replaying.{replaying}
@@ -75,11 +75,12 @@ IsProgramEnd words source sink errs reader reader' writer writer' errors errors'
     × WasCarriedOut choice source sink reader reader' writer writer' (ending.Failed fault))
     × ((whole : Bool) × IsPrinted errs errors errors' (fault_line fault) whole)
 -- Clap refused the words, as `IsRefusalOf` says, so nothing was read. Help and the version go to the first writer only,
--- other text to the second only. Words that clap takes and that name a command are refused only if memory ran out.
+-- other text to the second only. Words in which clap finds no fault, and that name a command, are refused only if
+-- memory ran out.
 IsProgramEnd words source sink errs reader reader' writer writer' errors errors' (ending.Refused kind printed) =
     (reader' ≡ reader) × IsRefusalOf words kind
     × IsTold sink errs writer writer' errors errors' kind printed
-    × ((choice : Choice) → takes program words ≡ true → command_in words ≡ Some (choice_name choice)
+    × ((choice : Choice) → fault_of program words ≡ [] → command_in words ≡ Some (choice_name choice)
     → kind ≡ OutOfMemory)
 -- These two ends come only if the words of the command line could not be had. Here the words are given.
 IsProgramEnd words source sink errs reader reader' writer writer' errors errors' ending.NonUtf8Args = ⊥

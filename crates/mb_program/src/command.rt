@@ -1,6 +1,6 @@
 //! The command line.
-ghost use Rattle.std.specs.Prelude.{◌≡◌, true, [], ◌∷◌, List, ℕ, Some, IfOk, IfErr, IfSome, OnOk, IsSome, map};
-ghost use Rattle.clap.specs.Words.{app_of, fault_of, kind_of, subcommand_name_of, subcommand_rows_of, takes};
+ghost use Rattle.std.specs.Prelude.{◌≡◌, [], ◌∷◌, List, ℕ, Some, IfOk, IfErr, IfSome, OnOk, IsSome, map};
+ghost use Rattle.clap.specs.Words.{app_of, fault_of, kind_of, subcommand_name_of, subcommand_rows_of};
 ghost use Rattle.mb_program.specs.CommandLine.{program, root_command, command_in, choice_name, IsProgramApp, IsRefusalOf};
 ghost use Rattle.mb_program.specs.RunOptions.{HasBudget, HasOptions, HasToldOptions};
 
@@ -70,8 +70,8 @@ fn choice_of(matches: &ArgMatches) -> Option<Choice>
 /// Reads the command line, whose first word is the program's name.
 ///
 /// Clap decides which lines are refused, and the text that says so. A call for help or the version counts as a refusal.
-/// A shape that is none of the four names is `InvalidValue`. If clap takes the line and it names a command, the line is
-/// refused only if memory runs out.
+/// A shape that is none of the four names is `InvalidValue`. If clap finds no fault in the line and it names a command,
+/// the line is refused only if memory runs out.
 pub fn command_of<'a, S: AsStr>(alloc: Global, words: &'a [S]) -> Result<Choice, Error>
     // The choice is the command that the words name, and clap refuses none of the words.
     ensures choice { IfOk result (λ choice. command_in (map S.text words.entry.now)
@@ -85,9 +85,9 @@ pub fn command_of<'a, S: AsStr>(alloc: Global, words: &'a [S]) -> Result<Choice,
     // A refusal is for want of memory, or of a kind that the words give. Help comes only if they ask for it.
     ensures kinds { IfErr result (λ e. IsRefusalOf (map S.text words.entry.now) (kind_of e)) }
 
-    // Words that clap takes and that name a command are refused only if memory runs out. So are the two words of the
-    // program's name and a command's name.
-    ensures refused { (choice : Choice) → takes program (map S.text words.entry.now) ≡ true
+    // Words in which clap finds no fault, and that name a command, are refused only if memory runs out. So are the two
+    // words of the program's name and a command's name.
+    ensures refused { (choice : Choice) → fault_of program (map S.text words.entry.now) ≡ []
         → command_in (map S.text words.entry.now) ≡ Some (choice_name choice)
         → IfErr result (λ e. kind_of e ≡ ErrorKind.OutOfMemory) }
     ensures alone { (name : List ℕ) (choice : Choice) → map S.text words.entry.now ≡ name

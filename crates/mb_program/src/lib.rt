@@ -19,7 +19,7 @@ pub use command::{Choice, VERSION, command_of};
 pub use fault::{Failed, NoMemory, RatifyFault, RunFault};
 pub use input::read_script;
 pub use meaning::explanation;
-pub use options::{DEFAULTS, MAX_BUDGET, Options};
+pub use options::{MAX_BUDGET, Options};
 pub use outcome::{DONE, FAILED, ProgramExit, REFUSED, fault_text, status_of, status_of_ending};
 pub use ratify::ratify_text;
 pub use run::{Workload, report_after, run_threads, workload_of};

@@ -35,17 +35,6 @@ pub struct Options {
 /// The largest budget that a command line can ask for. The least is 1.
 pub const MAX_BUDGET: u64 = 1_000_000;
 
-/// The options of `run` if the command line gives none.
-pub const DEFAULTS: Options = Options {
-    producers: 2,
-    consumers: 2,
-    items: 8,
-    pairs: 4,
-    budget: 64,
-    seed: 0,
-    shape: Shape::PLAIN,
-};
-
 /// The names that `--shape` takes. With `plain` each item has pairs alone. The others are those of a setup line.
 const SHAPES: &[&str] = &["plain", "fast", "last", "fastlast"];
 
@@ -126,48 +115,44 @@ pub(crate) fn run_command<'a>(alloc: Global) -> Result<Command<'a>, AllocError>
         .arg(named(alloc, "shape", "plain", SHAPES, help::SHAPE))
 }
 
-/// The number of an option, or `default` if it is not given.
-fn number_given(given: &ArgMatches, name: &str, default: u64) -> u64
-    ensures { result ≡ number_in name.now default (rows_of (found_of given.now)) }
+/// The number of an option. Each option has a default, so there is always one.
+fn number_given(given: &ArgMatches, name: &str) -> u64
+    ensures { result ≡ number_in name.now (rows_of (found_of given.now)) }
 {
-    given.get_one::<u64>(name).unwrap_or(default)
+    given.get_one::<u64>(name).unwrap_or(0)
 }
 
 /// The budget that the options give. Clap takes only numbers in its range, but no clause here says so. So the number is
-/// checked.
+/// bounded.
 fn budget_given(given: &ArgMatches) -> u64
     ensures number { result ≡ budget_in (rows_of (found_of given.now)) }
     ensures range { (1 ≤ result) × (result ≤ MAX_BUDGET) }
 {
-    let budget = number_given(given, "budget", DEFAULTS.budget);
-    if budget < 1 || MAX_BUDGET < budget {
-        return DEFAULTS.budget;
-    }
-    budget
+    number_given(given, "budget").clamp(1, MAX_BUDGET)
 }
 
-/// The shape that the option names. It is pairs alone for `plain`, and if the option is not given.
+/// The shape that the option names. It is pairs alone for `plain`.
 fn shape_given(given: &ArgMatches) -> Shape
     ensures { result ≡ shape_in (rows_of (found_of given.now)) }
 {
     match given.get_str("shape") {
-        Some(name) => shape_of_word(name).unwrap_or(DEFAULTS.shape),
-        None => DEFAULTS.shape,
+        Some(name) => shape_of_word(name).unwrap_or(Shape::PLAIN),
+        None => Shape::PLAIN,
     }
 }
 
-/// The options that the words of `run` give, and the defaults of the others.
+/// The options that the words of `run` give, with the defaults that clap puts in for the others.
 pub(crate) fn options_of(given: &ArgMatches) -> Options
     ensures options { result ≡ options_in (rows_of (found_of given.now)) }
     ensures budget { (1 ≤ result.budget) × (result.budget ≤ MAX_BUDGET) }
 {
     Options {
-        producers: number_given(given, "producers", DEFAULTS.producers),
-        consumers: number_given(given, "consumers", DEFAULTS.consumers),
-        items: number_given(given, "items", DEFAULTS.items),
-        pairs: number_given(given, "pairs", DEFAULTS.pairs),
+        producers: number_given(given, "producers"),
+        consumers: number_given(given, "consumers"),
+        items: number_given(given, "items"),
+        pairs: number_given(given, "pairs"),
         budget: budget_given(given),
-        seed: number_given(given, "seed", DEFAULTS.seed),
+        seed: number_given(given, "seed"),
         shape: shape_given(given),
     }
 }

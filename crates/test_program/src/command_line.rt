@@ -4,8 +4,7 @@ use crate::compare::{same, same_at};
 use clap::error::ErrorKind;
 use mb_claim::Shape;
 use mb_program::{
-    Choice, DEFAULTS, Failed, Options, ProgramExit, RatifyFault, RunFault, command_of,
-    status_of_ending,
+    Choice, Failed, Options, ProgramExit, RatifyFault, RunFault, command_of, status_of_ending,
 };
 use mb_script::Fault;
 use mb_world::SetupFault;
@@ -17,21 +16,20 @@ fn chooses<R: Abort + AllocGlobal>(rt: &R, words: &[&str], want: Choice) {
     same_at(rt, &is_chosen, &true, &words);
 }
 
-// The defaults of `run` are 2 producers, 2 consumers, 8 items for each producer, 4 pairs on each cell and no other
-// objects, budget 64 and seed 0.
+/// The options of `run` if the words give none.
+const DEFAULTS: Options = Options {
+    producers: 2,
+    consumers: 2,
+    items: 8,
+    pairs: 4,
+    budget: 64,
+    seed: 0,
+    shape: Shape::PLAIN,
+};
+
 #[test]
 fn run_has_defaults(rt: HostRuntime) {
-    let options = Options {
-        producers: 2,
-        consumers: 2,
-        items: 8,
-        pairs: 4,
-        budget: 64,
-        seed: 0,
-        shape: Shape::PLAIN,
-    };
-    same(&rt, &DEFAULTS, &options);
-    chooses(&rt, &["mailbox", "run"], Choice::Run(options));
+    chooses(&rt, &["mailbox", "run"], Choice::Run(DEFAULTS));
 }
 
 // A case has the words, and the options that they give. Each other option has its default.

@@ -1,8 +1,9 @@
 -- Proof of `command_of`: it reads the command line, whose first word is the program's name.
-use Rattle.std.proofs.Common.{map, subst, sym, ap, ◌∙◌}
-use Rattle.clap.specs.Words.{takes}
-use Rattle.mb_program.proofs.Commands.{alone_taken, alone_named, error_kept, found_in, kind_kept, named_in, not_some, refused_by, told_in, unnamed}
-use Rattle.mb_program.proofs.Programs.{faults_alike, program_is_free, takes_alike}
+use Rattle.std.proofs.Common.{map, subst, sym, ap, ◌≡◌, ◌∙◌}
+use Rattle.clap.specs.Words.{fault_of}
+use Rattle.clap.specs.declared.error.ErrorKind.TheVariants.{OutOfMemory}
+use Rattle.mb_program.proofs.Commands.{alone_taken, alone_named, error_kept, found_in, named_in, not_some, only_memory, refused_by, told_in, unnamed}
+use Rattle.mb_program.proofs.Programs.{faults_alike, program_is_free}
 use Rattle.mb_program.specs.CommandLine.{IsRefusalOf, program}
 use Rattle.mb_program.specs.RunOptions.{HasOptions}
 use Rattle.mb_program.proofs.command.command_of.Goals as goal
@@ -10,14 +11,17 @@ use Rattle.mb_program.proofs.command.command_of.Goals as goal
 pub returns-in_err-matches-clause-alone : goal.returns-in_err-matches-clause-alone
 returns-in_err-matches-clause-alone g c =
     λ name choice alone.
-    let taken = takes_alike _ _ c.in_ok-command.ensures ∙ ap (takes program) alone ∙ alone_taken name choice in
-    kind_kept _ _ c.from_residual-in_err-matches.ensures.1 (c.in_err-matches.ensures.passes taken)
+    error_kept (λ kind. kind ≡ OutOfMemory) _ c.in_err-matches.field-0.0 c.from_residual-in_err-matches.ensures.1
+    (only_memory (map g.S.AsStr.text c.args.words.now) _ c.in_err-matches.field-0.0 c.in_ok-command.ensures
+    (ap (fault_of program) alone ∙ alone_taken name choice)
+    (c.in_err-matches.ensures.kinds (program_is_free _ c.in_ok-command.ensures)))
 
 pub returns-in_err-matches-clause-refused : goal.returns-in_err-matches-clause-refused
 returns-in_err-matches-clause-refused g c =
-    λ choice taken named.
-    let same = takes_alike _ (map g.S.AsStr.text c.args.words.now) c.in_ok-command.ensures in
-    kind_kept _ _ c.from_residual-in_err-matches.ensures.1 (c.in_err-matches.ensures.passes (same ∙ taken))
+    λ choice none named.
+    error_kept (λ kind. kind ≡ OutOfMemory) _ c.in_err-matches.field-0.0 c.from_residual-in_err-matches.ensures.1
+    (only_memory (map g.S.AsStr.text c.args.words.now) _ c.in_err-matches.field-0.0 c.in_ok-command.ensures none
+    (c.in_err-matches.ensures.kinds (program_is_free _ c.in_ok-command.ensures)))
 
 pub returns-in_default-clause-alone : goal.returns-in_default-clause-alone
 returns-in_default-clause-alone g c =
@@ -28,7 +32,7 @@ returns-in_default-clause-alone g c =
 
 pub returns-in_default-clause-refused : goal.returns-in_default-clause-refused
 returns-in_default-clause-refused g c =
-    λ choice taken named.
+    λ choice none named.
     let found = named_in _ _ c.in_ok-matches.matches choice c.in_ok-command.ensures
     c.in_ok-matches.ensures.ok.2 named in
     absurd (not_some _ c.in_default.is (c.choice_of.ensures.each choice found))
