@@ -96,8 +96,9 @@ only_memory words app e is none has =
 
 -- if the matches of the words give no choice, the words name no command, so `InvalidSubcommand` is a refusal of them
 pub unnamed : (words : List Text) (app : App) (m : ArgMatches) (kind : ErrorKind)
-    (r : Option Choice) → IsProgramApp app → HasMatchesOf app words m
+    (r : Option Choice) → IsProgramApp app → HasMatchesOf app words m → fault_of app words ≡ []
     → r ≡ None → ((choice : Choice) → subcommand_name_of m ≡ Some (choice_name choice) → IsSome r)
     → kind ≡ InvalidSubcommand → IsRefusalOf words kind
-unnamed words app m kind r is_program matches none each is =
-    inr (inr (is, λ choice named. not_some r none (each choice (named_in app words m choice is_program matches named))))
+unnamed words app m kind r is_program matches faultless none each is =
+    inr (inr (is, sym (faults_alike app words is_program) ∙ faultless,
+    λ choice named. not_some r none (each choice (named_in app words m choice is_program matches named))))

@@ -98,9 +98,10 @@ choice_name Ratify = codes "ratify"
 choice_name Replay = codes "replay"
 choice_name (Run options) = codes "run"
 
--- why clap may return no choice for these words: memory ran out, its rules give a fault of this kind, or the words name
--- none of the commands
+-- why clap may return no choice for these words: memory ran out, its rules give a fault of this kind, or they give none
+-- and the words name none of the commands
 abbrev pub IsRefusalOf : List Text → ErrorKind → Type 0
 IsRefusalOf words kind =
     (kind ≡ OutOfMemory) ⊎ IsAmong kind (fault_of program words)
-    ⊎ ((kind ≡ InvalidSubcommand) × ((choice : Choice) → command_in words ≢ Some (choice_name choice)))
+    ⊎ ((kind ≡ InvalidSubcommand) × (fault_of program words ≡ [])
+    × ((choice : Choice) → command_in words ≢ Some (choice_name choice)))

@@ -62,5 +62,6 @@ returns-in_err-matches-clause-kinds g c =
 pub returns-in_default-clause-kinds : goal.returns-in_default-clause-kinds
 returns-in_default-clause-kinds g c =
     unnamed _ _ c.in_ok-matches.matches _ c.choice_of.result c.in_ok-command.ensures
-    c.in_ok-matches.ensures.ok.2 c.in_default.is
+    c.in_ok-matches.ensures.ok.2
+    (c.in_ok-matches.ensures.kinds (program_is_free _ c.in_ok-command.ensures)) c.in_default.is
     c.choice_of.ensures.each c.in_ok-error.ensures.kind
