@@ -1,24 +1,31 @@
 #!/usr/bin/env python3
 """The channel beside those that people know: nanoseconds and instructions a value.
 
-usage: bench/channels.py [--rounds 11] [--values 500000] [--counts]
+usage: bench/channels.py [--rounds 11] [--values 500000] [--counts | --table]
 
 Nanoseconds are medians of interleaved rounds, without the making of a channel. A x B is A threads that send and B that
 receive. With 4 x 16 there is also the 99th percentile of the time from send to receive. A row divides our figures by those
 of crossbeam-channel.
 Instructions are callgrind's, of a send and a receive, in one thread. With --counts there are no nanoseconds. On four idle
-processors it takes two minutes. It wants cargo, valgrind, and crossbeam-channel and flume of Debian.
+processors it takes two minutes. It wants cargo, valgrind, and crossbeam-channel, flume and async-channel of Debian.
+
+--table prints the last three rows of the README's table instead. The first has the bytes that one more `u64` takes while it
+waits, by the memory resident at the peaks of two runs that send all values before they receive one. The others divide the
+nanoseconds of each channel by those of crossbeam-channel, and have the least and the largest ratio over all A x B.
 """
 import argparse
 
 import measuring
 
 PROGRAM = measuring.ROOM / "release" / "beside_channels"
-CHANNELS = {"hazbultra": "`hazbultra::channel`", "crossbeam": "`crossbeam-channel`", "flume": "`flume`", "std": "`std::sync::mpsc`, a lock"}
+CHANNELS = {"hazbultra": "`hazbultra::channel`", "crossbeam": "`crossbeam-channel`", "flume": "`flume`",
+            "async": "`async-channel`", "std": "`std::sync::mpsc`, a lock"}
 # What is sent: a number, or a number in a box.
 SENT = ("u64", "box")
 THREADS = ((1, 1), (2, 2), (4, 4), (1, 4), (4, 1), (4, 16))
 COUNTED = (2000, 12000)
+# How many values two runs keep whose memory is compared. Both take more than this script: a child begins with its memory.
+KEPT = (1 << 21, 1 << 22)
 
 
 def told(*words):
@@ -31,11 +38,34 @@ def counts(what, sent):
         yield measuring.by_item(*COUNTED, lambda values: measuring.instructions((PROGRAM, what, sent, way, 1, 1, values)))
 
 
+def kept(what):
+    """The bytes of a `u64` that waits."""
+    return measuring.by_item(*KEPT, lambda values: measuring.used((PROGRAM, what, "u64", "turns", 1, 1, values))[1])
+
+
+def ratios(took, what, sent, base="crossbeam"):
+    """The least and the largest ratio of a channel's time to that of another, over all numbers of threads."""
+    if what == base:
+        return "1"
+    each = [took[what, sent, it] / took[base, sent, it] for it in THREADS]
+    return " to ".join(f"{it:.1f}" if it < 10 else f"{it:.0f}" for it in (min(each), max(each)))
+
+
+def front(took):
+    """The rows of the README."""
+    bytes_row = ["bytes that a waiting `u64` takes", *map(kept, CHANNELS)]
+    named = {"u64": "time, `u64`", "box": "time, a box each"}
+    rows = [[named[sent], *(ratios(took, it, sent) for it in CHANNELS)] for sent in SENT]
+    return measuring.table(["", *CHANNELS.values()], [bytes_row, *rows])
+
+
 def main():
     parser = argparse.ArgumentParser()
     parser.add_argument("--rounds", type=int, default=11)
     parser.add_argument("--values", type=int, default=500_000)
-    parser.add_argument("--counts", action="store_true")
+    what_of = parser.add_mutually_exclusive_group()
+    what_of.add_argument("--counts", action="store_true")
+    what_of.add_argument("--table", action="store_true")
     options = parser.parse_args()
     measuring.cargo("bench/beside_channels")
     print(measuring.machine(), end="\n\n")
@@ -49,6 +79,9 @@ def main():
                     return took / options.values
                 runs[what, sent, threads] = run
     took = measuring.medians(options.rounds, runs)
+    if options.table:
+        print(front(took))
+        return
     head, rows = ["A value", "instructions: one at a time", "all sent first"], []
     if not options.counts:
         head += [f"ns: {senders} x {receivers}" for senders, receivers in THREADS] + ["µs: 99th percentile of 4 x 16"]

@@ -9,6 +9,7 @@ from unittest import mock
 sys.path.append(str(pathlib.Path(__file__).resolve().parent.parent / "bench"))
 
 import by_cells
+import channels
 import large
 import measuring
 import rounds
@@ -64,6 +65,19 @@ class Figures(unittest.TestCase):
     def test_a_table(self):
         told = measuring.table(("An item", "ns"), [("`SegQueue`", 1234.6), ("none", None)])
         self.assertEqual(told, "| An item | ns |\n| --- | --- |\n| `SegQueue` | 1,235 |\n| none | - |")
+
+
+class Channels(unittest.TestCase):
+    def test_the_rows_of_the_readme(self):
+        took = {(what, sent, it): 10 for what in channels.CHANNELS for sent in channels.SENT for it in channels.THREADS}
+        took.update({("hazbultra", "u64", (2, 2)): 14.6, ("flume", "box", (1, 1)): 123, ("std", "box", (4, 16)): 9})
+        with mock.patch.object(channels, "kept", {"hazbultra": 30.4}.get):
+            told = channels.front(took).splitlines()[2:]
+        self.assertEqual([it.split(" | ")[1:] for it in told], [
+            ["30", "-", "-", "-", "- |"],
+            ["1.0 to 1.5", "1", "1.0 to 1.0", "1.0 to 1.0", "1.0 to 1.0 |"],
+            ["1.0 to 1.0", "1", "1.0 to 12", "1.0 to 1.0", "0.9 to 1.0 |"],
+        ])
 
 
 class Annotations(unittest.TestCase):

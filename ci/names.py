@@ -3,18 +3,21 @@
 
 A word between backticks has to stand in some source, or in the name of a file. In `crate::..::name` that crate has to have the
 name. A path has to be the end of a file's, and a link to lead to a file and heading. In "`function`: `clause`" the function has
-to have that clause. docs/CONTRACTS.md has to name each mutant. A sentence is text up to a full stop, a question mark or an
-exclamation mark before a space; code between backticks is one word of it. The status is 0 if all is well.
+to have that clause. docs/CONTRACTS.md has to name each mutant. Programs on README.md and docs/PROOF.md have to be part of some
+source. A sentence is text up to a full stop, a question mark or an exclamation mark before a space; code between backticks is
+one word of it. The status is 0 if all is well.
 """
 import os
 import re
 import sys
 
 TOP = os.path.dirname(os.path.dirname(os.path.abspath(__file__)))
-MOST_LINES, MOST_PAGE_WORDS, MOST_WORDS, MOST_COLUMNS = 170, 1350, 30, 120  # (the first two of README.md)
+MOST_LINES, MOST_PAGE_WORDS, MOST_WORDS, MOST_COLUMNS = 150, 1350, 30, 120  # (the first two of README.md)
 WORD = re.compile(r"[A-Za-z_]\w*")
+SHOWING = ("README.md", "docs/PROOF.md")  # pages whose programs are looked up
 PATH = re.compile(r"[\w.<>*-]+(?:/[\w.<>*-]+)+/?|[\w*-]+\.(?:rt|antt|md|py|sh|txt|edit)")
 FENCED = re.compile(r"^( *)```.*?^\1```$", re.M | re.S)
+PROGRAM = re.compile(r"^```(?:rust|antt)\n(.*?)^```$", re.M | re.S)
 SET_IN = re.compile(r"(?<=\n\n)(?: {4}.*\n|\n(?= {4}))+")
 LINK = re.compile(r"\[([^]]*)\]\([^)]*\)")
 FUNCTION = re.compile(r"^ *(?:pub(?:\(\w+\))? |const |final )*fn (\w+)(.*?)(?=^ *\}?\{|^ *(?:pub |#\[|fn )|\Z)", re.M | re.S)
@@ -94,6 +97,13 @@ def not_found(page, sources):
                 yield f"the clause {clause} of {names}"
 
 
+def not_shown(text, sources):
+    """The first line of each program on a page that stands in no source, whatever the indentation there."""
+    plain = lambda it: "\n".join(map(str.strip, it.splitlines()))
+    programs = [plain(read(it)) for it in sources.files if it.endswith((".rs", ".rt", ".antt"))]
+    return [it.partition("\n")[0] for it in PROGRAM.findall(text) if not any(plain(it) in one for one in programs)]
+
+
 def texts(prose):
     """The paragraphs, headings, list items and cells of a page without code, each as one line."""
     prose = re.sub(r"^#.*", r"\g<0>\n", prose, flags=re.M)
@@ -121,8 +131,9 @@ def too_long(page, text):
 
 def main():
     sources = Sources()
+    told = [f"{page}: no source has what begins with {it}" for page in SHOWING for it in not_shown(read(page), sources)]
     promises, mutants = read("docs/CONTRACTS.md"), [it for it in sources.files if it.endswith(".edit")]
-    told = [f"docs/CONTRACTS.md: does not name {it}" for it in mutants if f"`{os.path.basename(it)[:-5]}`" not in promises]
+    told += [f"docs/CONTRACTS.md: does not name {it}" for it in mutants if f"`{os.path.basename(it)[:-5]}`" not in promises]
     for page in (it for it in sources.files if it.endswith(".md") and "/must-fail/" not in it):
         told += [f"{page}: {it}" for it in too_long(page, read(page))]
         told += [f"{page}: not found: {it}" for it in dict.fromkeys(not_found(page, sources))]

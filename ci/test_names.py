@@ -12,6 +12,7 @@ FILES = {
     "crates/mb_a/mutants/wrong.edit": "",
     "docs/CONTRACTS.md": "# Promises\n\n## mb_a\n\n`one`: `made`. `wrong`\n",
     "README.md": "# Top\n",
+    "docs/PROOF.md": "",
 }
 
 
@@ -55,8 +56,13 @@ class Names(Room):
         self.assertEqual(self.told("\n```\n" + "a" * 121 + "\n```\n\n    " + "a" * 121 + "\n\n# " + "a" * 121 + "\n"), [])
 
     def test_the_readme_has_so_many_lines_and_words(self):
-        self.assertEqual(self.told("\n" * 169), [])
-        self.assertEqual(self.told("\n" * 170), ["171 lines, and at most 170 are allowed"])
-        self.assertEqual(self.told("one.\n\n" * 171, "docs/OTHER.md"), [])
-        self.assertEqual(self.told("one one one one one one one one one.\n" * 149), [])
-        self.assertEqual(self.told("one one one one one one one one one.\n" * 150), ["1351 words, and at most 1350 are allowed"])
+        self.assertEqual(self.told("\n" * 149), [])
+        self.assertEqual(self.told("\n" * 150), ["151 lines, and at most 150 are allowed"])
+        self.assertEqual(self.told("one.\n\n" * 151, "docs/OTHER.md"), [])
+        line = "one " * 18 + "one.\n"
+        self.assertEqual(self.told(line * 71), [])
+        self.assertEqual(self.told(line * 71 + "one.\n"), ["1351 words, and at most 1350 are allowed"])
+
+    def test_a_program_of_the_readme_stands_in_a_source(self):
+        self.assertEqual(self.told("\n```rust\n  a\n}\nfn other() {\n```\n"), [])
+        self.assertEqual(self.told("\n```rust\nfn gone() {\n```\n"), ["no source has what begins with fn gone() {"])

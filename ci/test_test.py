@@ -27,6 +27,8 @@ class Test(Room):
             self.tool(name, f'while [ "$1" != -o ]; do shift; done; echo exit >"$2"; {shutil.which("chmod")} +x "$2"')
         for path in FILES:
             self.write(path)
+        self.tool("cargo", "echo a line")
+        self.write("README.md", "a line\n")
         for it in ("test_stress", "test_stress.by-rattle", "example_scheduler", "example_scheduler.by-rattle"):
             self.tool(f"../crates/{it.partition('.')[0]}/out/{it}", REFUSED)
         shutil.copy(f"{TOP}/test", self.top)
@@ -81,7 +83,7 @@ class Test(Room):
         self.assertIn("C, memory: SKIPPED: there is no valgrind\n", said)
         self.assertEqual(self.run_it("--all", "--may-skip", "Miri")[0], 1)
         self.tool("valgrind", "exit 0")
-        self.tool("cargo", '[ "$2" != miri ]')
+        self.tool("cargo", '[ "$2" != miri ] && echo a line')
         self.assertEqual(self.run_it("--all", "--may-skip", "C", "--may-skip", "Miri")[:2], (0, (passed - 1, 0, 1)))
         self.assertEqual(self.run_it("--all", "--may-skip", "C")[0], 1)
         self.tool("cargo-clippy", "exit 1")

@@ -2,6 +2,7 @@
 //! nanoseconds the work took, without the making of the channel, and within how many 99 of 100 values arrived, or 0.
 //!
 //! Its arguments are CHANNEL u64|box threads|relay|turns PRODUCERS CONSUMERS VALUES.
+use hazbultra::channel;
 use std::env;
 use std::hint::black_box;
 use std::process::ExitCode;
@@ -20,27 +21,28 @@ trait Receiving<T>: Clone + Send {
 }
 
 macro_rules! channel {
-    ($sender:path, $receiver:path) => {
-        impl<T: Send> Sending<T> for $sender {
+    ($channel:ident :: $send:ident, $recv:ident) => {
+        impl<T: Send> Sending<T> for $channel::Sender<T> {
             fn send(&self, value: T) {
-                assert!(<$sender>::send(self, value).is_ok(), "a receiver is there");
+                assert!(
+                    <$channel::Sender<T>>::$send(self, value).is_ok(),
+                    "a receiver is there"
+                );
             }
         }
 
-        impl<T: Send> Receiving<T> for $receiver {
+        impl<T: Send> Receiving<T> for $channel::Receiver<T> {
             fn receive(&self) -> Option<T> {
-                self.recv().ok()
+                self.$recv().ok()
             }
         }
     };
 }
 
-channel!(
-    hazbultra::channel::Sender<T>,
-    hazbultra::channel::Receiver<T>
-);
-channel!(crossbeam_channel::Sender<T>, crossbeam_channel::Receiver<T>);
-channel!(flume::Sender<T>, flume::Receiver<T>);
+channel!(channel::send, recv);
+channel!(crossbeam_channel::send, recv);
+channel!(flume::send, recv);
+channel!(async_channel::send_blocking, recv_blocking);
 
 /// The receiver of the standard library with a lock round it, since it is for one thread alone.
 type Locked<T> = Arc<Mutex<mpsc::Receiver<T>>>;
@@ -145,9 +147,10 @@ fn work<T: Send, S: Sending<T>, R: Receiving<T>>(
 
 fn through<T: Send>(what: &str, way: &str, plan: Plan, form: Form<T>) -> Option<(u64, Vec<u64>)> {
     match what {
-        "hazbultra" => work(hazbultra::channel::unbounded(), way, plan, form),
+        "hazbultra" => work(channel::unbounded(), way, plan, form),
         "crossbeam" => work(crossbeam_channel::unbounded(), way, plan, form),
         "flume" => work(flume::unbounded(), way, plan, form),
+        "async" => work(async_channel::unbounded(), way, plan, form),
         "std" => {
             let (sender, receiver) = mpsc::channel();
             work((sender, Arc::new(Mutex::new(receiver))), way, plan, form)
@@ -195,7 +198,7 @@ fn run(words: &[String]) -> Option<(u64, Vec<u64>)> {
 fn main() -> ExitCode {
     let words: Vec<String> = env::args().skip(1).collect();
     let Some((took, mut ways)) = run(&words) else {
-        eprintln!("usage: beside_channels hazbultra|crossbeam|flume|std u64|box threads|relay|turns PRODUCERS CONSUMERS VALUES");
+        eprintln!("usage: beside_channels hazbultra|crossbeam|flume|async|std u64|box threads|relay|turns PRODUCERS CONSUMERS VALUES");
         return ExitCode::FAILURE;
     };
     ways.sort_unstable();

@@ -1,8 +1,10 @@
-//! A mailbox for threads: each producer puts values into a lane of its own, all consumers compete for each value, and **at
-//! most one consumer takes it**. A report at the end says who took what, and gives back what is left. No put and no poll
-//! takes a lock or waits, except in the allocator, for the box of a large value.
+//! Message passing for threads, on a mailbox that is proved to give each item to at most one consumer.
 //!
 //! [`channel`] is a channel over such mailboxes: any number of values may be sent, and receivers sleep until one comes.
+//!
+//! In a [`Mailbox`] each producer puts values into a lane of its own, all consumers compete for each value, and **at most one
+//! consumer takes it**. A report at the end says who took what, and gives back what is left. No put and no poll takes a
+//! lock or waits, except in the allocator, for the box of a large value.
 //!
 //! The mailbox is written in Rattle, which is Rust with contracts, and proved for every run: every order of the threads'
 //! steps, and all random words. This crate links an archive built from it, and needs nothing else. It is for Linux, on
