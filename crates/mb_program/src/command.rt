@@ -33,7 +33,7 @@ fn root_command<'a>(alloc: Global) -> Result<Command<'a>, AllocError>
         Command::new(alloc, "mailbox")
             .bin_name("mailbox")?
             .version(VERSION)
-            .about("Replays single atomic steps, or lets threads work")
+            .about("Message passing for threads, on a mailbox that is proved to give each item to at most one consumer")
             .after_help(help::PROGRAM)
             .subcommand_required(true),
     )

@@ -9,7 +9,7 @@ pub const TEXTS: &[Example] = &[
         words: &["mailbox", "--help"],
         input: "",
         output: "\
-Replays single atomic steps, or lets threads work
+Message passing for threads, on a mailbox that is proved to give each item to at most one consumer
 
 Usage: mailbox <COMMAND>
 
