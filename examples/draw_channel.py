@@ -1,13 +1,13 @@
 #!/usr/bin/env python3
 """Draws a value's way through a segment of a channel as SVG: examples/draw_channel.py > docs/pictures/channel.svg
 
-The accesses are those of `send` and `receive` in crates/mb_segment (`src/sending.rt`, `receiving.rt`, `waiting.rt`), written down here
-by hand for one order of two threads. The script computes what each load finds. Nothing compares the rows with those sources.
+The accesses are those of `send` and `receive` in crates/mb_segment (`src/sending.rt`, `receiving.rt`, `waiting.rt`), in one order
+of two threads. They are written down here by hand, and nothing compares them with those sources. What a load finds is computed.
 """
 import draw
 
 SENDER, RECEIVER, POSITION = ("sender",), ("receiver",), ("position",)
-HEADS = {SENDER: ("sender", "one pass"), RECEIVER: ("receiver", "another pass"), POSITION: ("position 0", "and its slot")}
+HEADS = {SENDER: ("sender", "one thread"), RECEIVER: ("receiver", "another thread"), POSITION: ("position 0", "and its slot")}
 # Each access: who makes it, the word, what it stores there if it stores, and what it comes to.
 STEPS = [
     (RECEIVER, "claimed", None, "looks"),
@@ -31,23 +31,23 @@ STEPS = [
 # Spans of time, in rows that count from 1: the first, the last, and the style.
 BOXES = [(RECEIVER, 4, 7, "f lost"), (RECEIVER, 8, 12, "f undecided"), (SENDER, 9, 12, "f lost"), (RECEIVER, 13, 16, "f lost")]
 PLACES = [(1, 8, "quiet", "free"), (9, 9, "load", "drawn"), (10, 15, "store", "marked"), (16, 16, "won", "claimed"), (17, 17, "took", "read")]
-FORMS = draw.FORMS[:2] + [("line", "", "from store to load"), ("quiet", "", "finds nothing")]
-FORMS = [(form, {"p := 1": "drawn", "p = 1": "list"}.get(inside, inside), says) for form, inside, says in FORMS]
-LEGEND = [*FORMS, ("f undecided", "", "asleep"), ("f lost", "", "owes a wake or a look")], """drawn = 0 := 1: an exchange found 0, and stored 1.
+FORMS = [("store", "drawn", "store"), ("load", "list", "load: what it found"), ("line", "", "from store to load")]
+FORMS += [("quiet", "", "finds nothing"), ("f undecided", "", "asleep"), ("f lost", "", "owes a wake or a look")]
+LEGEND = FORMS, """drawn = 0 := 1: a compare-exchange found 0, stored 1.
 drawn, claimed: how many positions are drawn, and claimed.
 list: how many wait without a token, and tokens not taken.
 state 0: of position 0: 0, 1 if it is marked, 2 if it is read.
 The sender fills the slot just before it marks the position.
 The receiver empties it just before it stores the 2.
-Peeks at the list tell nothing, and have no mark here.
+Peeks at the list tell nothing, and are not shown.
 Whoever has given a token then wakes a thread."""
 
 
 def marks():
-    """A mark for each access. A load finds what was last stored in its word, or 0, and so does an exchange."""
+    """A mark for each access. A load finds what was last stored in its word, or 0, and so does a compare-exchange."""
     words = {}
     for column, word, stored, remark in STEPS:
-        is_plain = stored and word.startswith("state")  # (a position's state is stored without an exchange)
+        is_plain = stored and word.startswith("state")  # (a position's state is stored without looking)
         found = "" if is_plain else words.get(word, "0")
         words[word] = stored or words.get(word, "0")
         yield draw.Mark(column, (word,), found, stored or "", remark)
