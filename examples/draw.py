@@ -286,7 +286,16 @@ def shown_report(lines, what):
     return told + [f"further {what}, not shown: {more}"] * (more > 0)
 
 
-def chart(heads, marks, places, routes, width):
+def claims(marks, places):
+    """The boxes of a picture, as text."""
+    told = ""
+    for it in boxes_of(marks):
+        end = it.last + 1 if it.ended else len(marks)
+        told += box(it.tone, it.ended, *places[it.column], middle(it.first) - ROW // 2, middle(end) - ROW // 2)
+    return told
+
+
+def chart(heads, marks, boxes, places, routes, width):
     """Heads and rows, and over them boxes, lines and marks, in this order, so that no line runs over a mark."""
     told = ""
     for column, (left, wide) in places.items():
@@ -295,10 +304,7 @@ def chart(heads, marks, places, routes, width):
     for row in range(len(marks)):
         told += f"<path class='guide' d='M{LEFT} {middle(row)}H{width - 10}'/>\n"
         told += text("n", LEFT - 6, middle(row) + 4, str(row + 1))
-    for it in boxes_of(marks):
-        end = it.last + 1 if it.ended else len(marks)
-        told += box(it.tone, it.ended, *places[it.column], middle(it.first) - ROW // 2, middle(end) - ROW // 2)
-    told += "".join(route(*it) for it in routes)
+    told += boxes + "".join(route(*it) for it in routes)
     return told + "".join(drawn(it, *places[it.column], middle(row)) for row, it in enumerate(marks))
 
 
@@ -306,7 +312,8 @@ def svg(title, heads, marks, hidden, report, its_legend):
     """The text of a picture. `hidden` is how many further events are not drawn."""
     places, routes, end = layout(heads, marks, lines_of(marks))
     width = max(end, letters(len(title)) * 7 // 6 + 24, 444)  # (the title has larger letters)
-    body, y = text("t", 12, 24, title) + chart(heads, marks, places, routes, width), middle(len(marks)) + 10
+    body = text("t", 12, 24, title) + chart(heads, marks, claims(marks, places), places, routes, width)
+    y = middle(len(marks)) + 10
     if hidden:
         body += text("b", 12, y, f"{hidden} events more are not drawn. The report is of all.")
         y += TEXT + 8

@@ -48,13 +48,15 @@ class Pictures(unittest.TestCase):
                 if name in kept:
                     with open(kept.pop(name), "rb") as file:
                         self.assertEqual(ours.stdout, file.read())
-        self.assertEqual([*kept], ["crates"], "no example has these names")
+        self.assertEqual(sorted(kept), ["channel", "crates"], "no example has these names")
 
-    def test_the_crates(self):
-        ours = run(f"{HERE}/draw_crates.py").stdout
-        self.texts(ours)
-        with open(f"{HERE}/../docs/pictures/crates.svg", "rb") as file:
-            self.assertEqual(ours, file.read(), "examples/draw_crates.py > docs/pictures/crates.svg")
+    def test_the_crates_and_the_channel(self):
+        for name in ("crates", "channel"):
+            with self.subTest(name):
+                ours = run(f"{HERE}/draw_{name}.py").stdout
+                self.texts(ours)
+                with open(f"{HERE}/../docs/pictures/{name}.svg", "rb") as file:
+                    self.assertEqual(ours, file.read(), f"examples/draw_{name}.py > docs/pictures/{name}.svg")
 
     def test_what_is_not_shown_is_counted(self):
         said = "offer 0 5 full\n" * 203 + "diary 0 0\n" * 2 + "diary 0 0 begun\n" * 201
