@@ -14,7 +14,7 @@ failed=0
 # says WORDS..: standard input has the lines that the grep prints with these words, then its errors, and then its status.
 says() {
     $order >expected
-    ${RUN-} "$grep" "$@" >lines 2>errors
+    timeout 60 ${RUN-} "$grep" "$@" >lines 2>errors
     status=$?
     # (Rust adds a number to what the system says of an error)
     { cat lines && sed 's/ (os error [0-9]*)$//' errors && echo "status $status"; } | $order >said
