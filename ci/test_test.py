@@ -8,8 +8,8 @@ from rooms import Room
 
 TOP = os.path.dirname(os.path.dirname(os.path.abspath(__file__)))
 OWN = "sh env sed grep awk tee mktemp date dirname rm cat tail".split()
-FILES = """mailbox examples/script bindings/rust/tests/packing.sh bindings/rust_stream/test.sh bindings/c/Makefile ci/prebuilt.sh
-ci/map.sh""".split()
+FILES = """mailbox examples/script bindings/rust/tests/packing.sh bindings/rust/tests/examples.sh bindings/rust_stream/test.sh
+bindings/c/Makefile ci/prebuilt.sh ci/map.sh""".split()
 # What a program does that is refused a thread.
 REFUSED = 'echo "run 0 of seed $1: Work(NoThread, 2), Plan { cells: 3 }"; echo Error: a thread could not be started; exit 1'
 TOOLS = "python3 groff cargo rustfmt cargo-clippy make cc c++ gcc clang valgrind pkg-config git rt sha256sum nats-server cmake musl-gcc aarch64-linux-gnu-gcc qemu-aarch64 rustc".split()

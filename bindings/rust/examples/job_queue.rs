@@ -1,62 +1,77 @@
-//! Workers sleep until a job comes. A job that panics is tried again, perhaps by another worker. At last all end.
-use hazbultra::channel::{unbounded, Receiver};
-use std::panic;
-use std::sync::atomic::{AtomicUsize, Ordering};
-use std::thread;
-use std::time::Duration;
+//! A job queue with retries. Workers sleep until a job comes. A job that fails or panics goes back to the queue, and runs
+//! again, up to three times in all. After the stop, the workers run what is left, and end. An audit confirms who ran what.
+use hazbultra::channel::{Builder, Receiver};
+use std::collections::BTreeMap;
+use std::{panic, thread, time::Duration};
 
-const JOBS: usize = 500;
 const WORKERS: usize = 4;
+const MOST_TRIES: usize = 3;
 
-static SUM: AtomicUsize = AtomicUsize::new(0);
-
-struct Work {
-    number: usize,
-    tries: usize,
+struct Mail {
+    number: u32,
+    /// The number of each try's worker.
+    tried_by: Vec<u64>,
 }
 
-impl Work {
-    /// Runs the job. Each fiftieth job panics at its first try.
-    fn run(&self) {
-        assert!(
-            self.number % 50 != 0 || self.tries > 1,
-            "job {}",
-            self.number
-        );
-        SUM.fetch_add(self.number, Ordering::Relaxed);
+/// The work of a job, which may fail or panic.
+fn deliver(mail: &Mail) -> Result<(), String> {
+    thread::sleep(Duration::from_millis(5)); // (a server takes its time)
+    match (mail.number, mail.tried_by.len()) {
+        (3, 1) => Err("the server is busy".into()),
+        (5, 1 | 2) => panic!("mail 5 panics twice"),
+        (8, _) => Err("nobody has this address".into()),
+        _ => Ok(()),
     }
 }
 
-/// Runs jobs until no further one can come. Returns how many of its tries failed.
-fn worker(jobs: &Receiver<Work>) -> usize {
-    let mut failures = 0;
-    while let Ok(mut job) = jobs.recv_job() {
-        job.tries += 1;
-        // A panic drops the job, which goes back to the channel.
-        let worked = panic::catch_unwind(move || {
-            job.run();
-            job.done();
-        });
-        failures += usize::from(worked.is_err());
+/// Runs jobs until the queue is closed and empty, and no job can come back.
+fn worker(queue: &Receiver<Mail>) -> Vec<(Mail, String)> {
+    let mut ended = Vec::new();
+    while let Ok(mut job) = queue.recv_job() {
+        job.tried_by.push(queue.number());
+        let told = match panic::catch_unwind(|| deliver(&job)) {
+            Ok(Ok(())) => "delivered".into(),
+            _ if job.tried_by.len() < MOST_TRIES => continue, // (its drop gives the job back)
+            Ok(Err(why)) => why,
+            Err(_) => "panicked".into(),
+        };
+        ended.push((job.done(), told));
     }
-    failures
+    ended
 }
 
 fn main() {
-    panic::set_hook(Box::new(|_| ())); // (these panics are meant)
-    let (sender, receiver) = unbounded();
-    let workers: Vec<_> = (0..WORKERS)
-        .map(|_| receiver.clone())
-        .map(|jobs| thread::spawn(move || worker(&jobs)))
+    let (sender, receiver, audit) = Builder::new().audited();
+    let workers = vec![receiver; WORKERS].into_iter();
+    let workers: Vec<_> = workers
+        .map(|queue| thread::spawn(move || worker(&queue)))
         .collect();
-    thread::sleep(Duration::from_millis(10)); // (by now the workers sleep)
-    for number in 1..=JOBS {
-        let work = Work { number, tries: 0 };
-        assert!(sender.send(work).is_ok(), "the receivers are there");
+    let mail = |number| Mail {
+        number,
+        tried_by: Vec::new(),
+    };
+    for number in 1..=10 {
+        sender.send(mail(number)).expect("the workers are there");
     }
-    drop(sender); // the workers end after the last job is done
-    let failures: usize = workers.into_iter().filter_map(|it| it.join().ok()).sum();
-    assert_eq!(failures, JOBS / 50);
-    assert_eq!(SUM.load(Ordering::Relaxed), JOBS * (JOBS + 1) / 2);
-    println!("{JOBS} jobs are done, each once; {failures} were tried again");
+    sender.close(); // the stop
+    let refused = sender.send(mail(11)).expect_err("the queue is closed");
+    println!("mail {} came after the stop", refused.into_inner().number);
+
+    let ended = workers
+        .into_iter()
+        .flat_map(|it| it.join().expect("each panic is caught"));
+    let mut ended: Vec<_> = ended.collect();
+    ended.sort_by_key(|(mail, _)| mail.number);
+    for (mail, told) in &ended {
+        println!("mail {}: {told}, tried by {:?}", mail.number, mail.tried_by);
+    }
+
+    // The audit counts what each worker took, and has to agree with what the mails say.
+    let mut tries = BTreeMap::new();
+    for worker in ended.iter().flat_map(|(mail, _)| &mail.tried_by) {
+        *tries.entry(*worker).or_default() += 1;
+    }
+    let totals = audit.totals();
+    assert_eq!(totals.taken, tries);
+    println!("{totals:?}");
 }
