@@ -1,4 +1,4 @@
-//! Message passing for threads, on a mailbox that is proved to give each item to at most one consumer.
+//! Message passing between threads, on a mailbox with a proof that no item is taken twice.
 //!
 //! [`channel`] is a channel over such mailboxes: any number of values may be sent, and receivers sleep until one comes.
 //!

@@ -21,7 +21,9 @@ prints() {
 }
 
 # (the README has this program, and the line that it prints)
-grep -x 'sum .*' ../../README.md | prints two_workers
+prints two_workers <<END
+$(grep -x '[0-9]*' ../../README.md)
+END
 prints one_letter <<'END'
 Some("a letter")
 Lost(0)

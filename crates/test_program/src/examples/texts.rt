@@ -9,7 +9,7 @@ pub const TEXTS: &[Example] = &[
         words: &["mailbox", "--help"],
         input: "",
         output: "\
-Message passing for threads, on a mailbox that is proved to give each item to at most one consumer
+Message passing between threads, on a mailbox with a proof that no item is taken twice
 
 Usage: mailbox <COMMAND>
 
