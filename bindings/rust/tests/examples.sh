@@ -22,7 +22,7 @@ prints() {
 
 # (the README has this program, and the line that it prints)
 prints two_workers <<END
-$(grep -x '[0-9]*' ../../README.md)
+$(grep -x '[0-9][0-9]*' ../../README.md)
 END
 prints one_letter <<'END'
 Some("a letter")
