@@ -1,7 +1,7 @@
 #!/usr/bin/env python3
 """The channel beside those that people know: nanoseconds and instructions a value.
 
-usage: bench/channels.py [--rounds 11] [--values 500000] [--counts | --table]
+usage: bench/channels.py [--rounds 11] [--values 500000] [--counts]
 
 Nanoseconds are medians of interleaved rounds, without the making of a channel. A x B is A threads that send and B that
 receive. With 4 x 16 there is also the 99th percentile of the time from send to receive. A row divides our figures by those
@@ -9,9 +9,9 @@ of crossbeam-channel.
 Instructions are callgrind's, of a send and a receive, in one thread. With --counts there are no nanoseconds. On four idle
 processors it takes two minutes. It wants cargo, valgrind, and crossbeam-channel, flume and async-channel of Debian.
 
---table prints the last three rows of the README's table instead. The first has the bytes that one more `u64` takes while it
-waits, by the memory resident at the peaks of two runs that send all values before they receive one. The others divide the
-nanoseconds of each channel by those of crossbeam-channel, and have the least and the largest ratio over all A x B.
+It first prints the last rows of the README's table. One has the bytes that one more `u64` takes while it waits, by the memory
+resident at the peaks of two runs that send all values before they receive one. The others divide the nanoseconds of each
+channel by those of crossbeam-channel, and have the least and the largest ratio over all A x B.
 """
 import argparse
 
@@ -53,7 +53,7 @@ def ratios(took, what, sent, base="crossbeam"):
 
 def front(took):
     """The rows of the README."""
-    bytes_row = ["bytes that a waiting `u64` takes", *map(kept, CHANNELS)]
+    bytes_row = ["bytes for each `u64` that waits", *map(kept, CHANNELS)]
     named = {"u64": "time, `u64`", "box": "time, a box each"}
     rows = [[named[sent], *(ratios(took, it, sent) for it in CHANNELS)] for sent in SENT]
     return measuring.table(["", *CHANNELS.values()], [bytes_row, *rows])
@@ -63,9 +63,7 @@ def main():
     parser = argparse.ArgumentParser()
     parser.add_argument("--rounds", type=int, default=11)
     parser.add_argument("--values", type=int, default=500_000)
-    what_of = parser.add_mutually_exclusive_group()
-    what_of.add_argument("--counts", action="store_true")
-    what_of.add_argument("--table", action="store_true")
+    parser.add_argument("--counts", action="store_true")
     options = parser.parse_args()
     measuring.cargo("bench/beside_channels")
     print(measuring.machine(), end="\n\n")
@@ -79,9 +77,8 @@ def main():
                     return took / options.values
                 runs[what, sent, threads] = run
     took = measuring.medians(options.rounds, runs)
-    if options.table:
-        print(front(took))
-        return
+    if not options.counts:
+        print(front(took), end="\n\n", flush=True)
     head, rows = ["A value", "instructions: one at a time", "all sent first"], []
     if not options.counts:
         head += [f"ns: {senders} x {receivers}" for senders, receivers in THREADS] + ["µs: 99th percentile of 4 x 16"]

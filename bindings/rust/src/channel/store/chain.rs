@@ -7,11 +7,11 @@
 use super::segment::{Place, Segment, Writer};
 use super::{Look, Plan, Refused, State, Status, SEATS};
 use crate::channel::audit::GIVEN_BACK;
-use crate::channel::system::{lock, Line};
+use crate::channel::system::{lock, lock_soon, try_lock, Line};
 use std::mem;
 use std::sync::atomic::AtomicU64;
 use std::sync::atomic::Ordering::{Relaxed, SeqCst};
-use std::sync::{Arc, Mutex, MutexGuard, TryLockError};
+use std::sync::{Arc, Mutex, MutexGuard};
 
 pub(crate) struct Chain<T> {
     plan: Plan<T>,
@@ -56,11 +56,7 @@ impl<T> Seat<T> {
     /// Leaves its segment, if that is over, so that this seat does not pin it. It only tries the lock: a seat that is in
     /// use moves on by itself. Whoever calls it drops what it returns, under no lock.
     fn tidy(&self) -> Option<Place<T>> {
-        let mut place = match self.0.try_lock() {
-            Ok(place) => place,
-            Err(TryLockError::Poisoned(place)) => place.into_inner(),
-            Err(TryLockError::WouldBlock) => return None,
-        };
+        let mut place = try_lock(&self.0)?;
         place.is_over().then(|| mem::take(&mut *place))
     }
 }
@@ -100,7 +96,7 @@ impl<T> Chain<T> {
     /// Puts a value at the end, under the lane's lock.
     #[inline]
     pub(crate) fn put(&self, value: T, who: u64) -> Result<(), Refused<T>> {
-        let mut lane = lock(&self.end.0.lane);
+        let mut lane = lock_soon(&self.end.0.lane);
         // (`Relaxed` suffices here and below: the word is stored under this lock alone)
         let (put, plain) = (self.end.0.put.load(Relaxed), lane.plain);
         match &mut lane.writer {
