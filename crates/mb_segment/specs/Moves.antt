@@ -124,6 +124,13 @@ SawAllTaken v = Below v.sight.empty v.account.sent
 abbrev pub told : {T : Type 0} → View T → View T
 told v = record v { over = true }
 
+-- what it was told rules out no claim, and no draw
+abbrev pub MayTake : {T : Type 0} → View T → Type 0
+MayTake v = v.over ≡ false
+
+abbrev pub MaySend : {T : Type 0} → View T → Type 0
+MaySend v = (v.sight.full ≡ false) × (v.sight.cut ≡ false) × (v.account.cut ≡ false) × (v.over ≡ false)
+
 -- ---- the hub
 abbrev pub issued : {T : Type 0} → View T → View T
 issued v = record v { out = v.out + 1 }

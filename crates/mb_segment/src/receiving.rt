@@ -1,6 +1,6 @@
 //! The calls of receivers that never wait.
 ghost use Rattle.std.specs.Prelude.{Some, [], false, true, ◌<◌, ◌∷◌, ◌≡◌};
-ghost use Rattle.mb_segment.specs.{Becomes, IsStill, Member, Nothing, OfLeave, OfLook, OfRest, Reads, SawAllTaken, bare, done};
+ghost use Rattle.mb_segment.specs.{Becomes, IsStill, MayTake, Member, Nothing, OfLeave, OfLook, OfRest, Reads, SawAllTaken, bare, done};
 ghost use Rattle.mb_segment.specs.{ended, enters, falls_asleep, held_by, leaves, leaves_with_token, looked, spot, told, took};
 ghost use Rattle.mb_segment.specs.{view_in, wakes_up, with_duty};
 
@@ -81,7 +81,7 @@ impl<T: Drop, A: Allocator + Drop> Segment<T, A> {
         ensures pass { IsStill pass.old pass.new }
         ensures claimed { result ≡ true → (x : T)
             × (view_in pass.new ≡ with_duty looked (took at x (view_in pass.old)))
-            × (held_by pass.new ≡ (at, Some x) ∷ []) }
+            × (held_by pass.new ≡ (at, Some x) ∷ []) × MayTake (view_in pass.old) }
         ensures missed { result ≡ false → Becomes pass.old pass.new (view_in pass.old) }
     {
         self.claim_from(pass, at, at + 1) == at
@@ -98,7 +98,7 @@ impl<T: Drop, A: Allocator + Drop> Segment<T, A> {
         ensures pass { IsStill pass.old pass.new }
         ensures claimed { result ≡ true → (x : T)
             × (view_in pass.new ≡ with_duty done (took at x (view_in pass.old)))
-            × (held_by pass.new ≡ (at, Some x) ∷ []) }
+            × (held_by pass.new ≡ (at, Some x) ∷ []) × MayTake (view_in pass.old) }
         ensures missed { result ≡ false → Becomes pass.old pass.new (view_in pass.old) }
     {
         self.claim_listed_from(pass, at, at + 1) == at
