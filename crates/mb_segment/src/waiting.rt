@@ -1,6 +1,6 @@
 //! The calls that wait: one send, and one receive that sleeps until a value comes.
 ghost use Rattle.std.specs.Prelude.{IfErr, IfNone, IfOk, IfSome, [], false, true, ℕ, ◌+◌, ◌++◌, ◌<◌, ◌∷◌, ◌≡◌, ◌⊎◌};
-ghost use Rattle.mb_segment.specs.{Becomes, IsCalm, IsFree, IsStill, Member, Nothing, OfFound, OfNotSent, OfReceived};
+ghost use Rattle.mb_segment.specs.{Becomes, IsCalm, IsFree, IsStill, MaySend, MayTake, Member, Nothing, OfFound, OfNotSent, OfReceived};
 ghost use Rattle.mb_segment.specs.{SawAllTaken, bare, calm, did_cut, done, ended, enters, falls_asleep, gives_up, got_at, has_closed, has_woken, held_by};
 ghost use Rattle.mb_segment.specs.{leaves, looked, sees_cut, sent_at, told, took, value_of, view_in, wakes_up, with_duty};
 
@@ -82,7 +82,8 @@ impl<T: Drop, A: Allocator + Drop> Segment<T, A> {
         requires free { IsFree pass.old }
         ensures pass { IsStill pass.old pass.new }
         ensures sent { IfOk result (λ _. (at : ℕ)
-            × (bare (view_in pass.new) ≡ sent_at at value (calm (view_in pass.old)))) }
+            × (bare (view_in pass.new) ≡ sent_at at value (calm (view_in pass.old)))
+            × MaySend (view_in pass.old)) }
         ensures refused { IfErr result (λ e. (value_of e ≡ value)
             × (bare (view_in pass.new) ≡ calm (view_in pass.old))
             × OfNotSent e ((view_in pass.new).sight.full ≡ true)
@@ -138,7 +139,8 @@ impl<T: Drop, A: Allocator + Drop> Segment<T, A> {
         ensures held { held_by pass.new ≡ [] }
         ensures answer { OfFound result
             (λ x. (at : ℕ)
-            × (bare (view_in pass.new) ≡ got_at at x (with_duty looked (bare (view_in pass.old)))))
+            × (bare (view_in pass.new) ≡ got_at at x (with_duty looked (bare (view_in pass.old))))
+            × MayTake (view_in pass.old))
             ((bare (view_in pass.new) ≡ with_duty looked (bare (view_in pass.old)))
             × SawAllTaken (view_in pass.new))
             (bare (view_in pass.new) ≡ told (with_duty looked (bare (view_in pass.old)))) }
@@ -168,7 +170,8 @@ impl<T: Drop, A: Allocator + Drop> Segment<T, A> {
         ensures held { held_by pass.new ≡ [] }
         ensures answer { OfFound result
             (λ x. (at : ℕ)
-            × (bare (view_in pass.new) ≡ got_at at x (with_duty done (bare (view_in pass.old)))))
+            × (bare (view_in pass.new) ≡ got_at at x (with_duty done (bare (view_in pass.old))))
+            × MayTake (view_in pass.old))
             ((bare (view_in pass.new) ≡ with_duty falls_asleep (bare (view_in pass.old)))
             × SawAllTaken (view_in pass.new))
             (bare (view_in pass.new) ≡ told (with_duty done (bare (view_in pass.old)))) }
@@ -271,7 +274,8 @@ impl<T: Drop, A: Allocator + Drop> Segment<T, A> {
         requires free { IsFree pass.old }
         ensures pass { IsStill pass.old pass.new }
         ensures received { IfSome result (λ x. (at : ℕ)
-            × (bare (view_in pass.new) ≡ got_at at x (calm (view_in pass.old)))) }
+            × (bare (view_in pass.new) ≡ got_at at x (calm (view_in pass.old)))
+            × MayTake (view_in pass.old)) }
         ensures over { IfNone result
             (bare (view_in pass.new) ≡ told (calm (view_in pass.old))) }
         ensures free { IsFree pass.new }
@@ -315,7 +319,8 @@ impl<T: Drop, A: Allocator + Drop> Segment<T, A> {
         requires free { IsFree pass.old }
         ensures pass { IsStill pass.old pass.new }
         ensures answer { OfReceived result
-            (λ x. (at : ℕ) × (bare (view_in pass.new) ≡ got_at at x (calm (view_in pass.old))))
+            (λ x. (at : ℕ) × (bare (view_in pass.new) ≡ got_at at x (calm (view_in pass.old)))
+            × MayTake (view_in pass.old))
             (bare (view_in pass.new) ≡ told (calm (view_in pass.old)))
             ((bare (view_in pass.new) ≡ calm (view_in pass.old)) × SawAllTaken (view_in pass.new)) }
         ensures free { IsFree pass.new }
