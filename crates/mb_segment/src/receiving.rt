@@ -24,7 +24,8 @@ impl<T: Drop, A: Allocator + Drop> Segment<T, A> {
             × (bare (view_in pass.new) ≡ bare (view_in pass.old)))
             (bare (view_in pass.new) ≡ bare (view_in pass.old))
             ((bare (view_in pass.new) ≡ with_duty looked (bare (view_in pass.old)))
-            × SawAllTaken (view_in pass.new))
+            × SawAllTaken (view_in pass.new)
+            × ((view_in pass.new).sight.ripe ≡ (view_in pass.old).sight.ripe))
             (bare (view_in pass.new) ≡ told (with_duty looked (bare (view_in pass.old)))) }
     {
         let first = self.load_taken(pass);
@@ -53,7 +54,8 @@ impl<T: Drop, A: Allocator + Drop> Segment<T, A> {
             × (bare (view_in pass.new) ≡ bare (view_in pass.old)))
             (bare (view_in pass.new) ≡ bare (view_in pass.old))
             ((bare (view_in pass.new) ≡ with_duty falls_asleep (bare (view_in pass.old)))
-            × SawAllTaken (view_in pass.new))
+            × SawAllTaken (view_in pass.new)
+            × ((view_in pass.new).sight.ripe ≡ (view_in pass.old).sight.ripe))
             (bare (view_in pass.new) ≡ told (with_duty done (bare (view_in pass.old)))) }
     {
         let first = self.load_taken(pass);
