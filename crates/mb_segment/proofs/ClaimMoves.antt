@@ -208,6 +208,7 @@ module _ {T : Type 0} where
             };
             hub_ = λ q. absurd (no_hub v.role role q);
             back = λ q. absurd (no_spent v.role role q);
+            debt = λ no_. absurd (no_ role);
             half = ((b.by, here s k n v w at old now_ r.1 idle b bs first refl), home.0);
             low = omega arith;
             ripe = fit.ripe;

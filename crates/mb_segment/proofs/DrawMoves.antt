@@ -192,6 +192,7 @@ module _ {T : Type 0} where
             };
             hub_ = λ r. absurd (no_hub v.role role r);
             back = λ r. absurd (no_spent v.role role r);
+            debt = λ no_. absurd (no_ role);
             half = draw_own s k n v at x old now_ fits_ idle w refl;
             low = fit.low;
             ripe = fit.ripe;
@@ -309,6 +310,7 @@ module _ {T : Type 0} where
             };
             hub_ = λ r. absurd (no_hub v.role role r);
             back = λ r. absurd (no_spent v.role role r);
+            debt = λ no_. absurd (no_ role);
             half = half_cut h (Some n) k.states n v.half fit.half;
             low = fit.low;
             ripe = fit.ripe;

@@ -2,9 +2,9 @@
 ghost use Rattle.std.specs.Prelude.{List, Some, [], length, true, ℕ, ◌+◌, ◌<◌, ◌∷◌, ◌≡◌, ◌≤◌, ◌⊎◌};
 ghost use mathlib.Core.Option.{some};
 ghost use lib.ListN.{get_elem?};
-ghost use Rattle.mb_segment.specs.{Claim, Entry, Has, IsCut, IsOfPass, IsOver, IsPassOf, IsViewOf, Keeps, Rises};
-ghost use Rattle.mb_segment.specs.{SawAllTaken, SegmentState, View, all_entries, claimed_in, closing, drawn_in};
-ghost use Rattle.mb_segment.specs.{got_by, new_hub, owed, sent_by, sleeping, total};
+ghost use Rattle.mb_segment.specs.{Claim, Entry, Has, IsCut, IsOfPass, IsOver, IsPassOf, IsViewOf, Issuer, Keeps, Match, Member};
+ghost use Rattle.mb_segment.specs.{Rises, SawAllTaken, SegmentState, View, all_entries, claimed_in, closing, drawn_in};
+ghost use Rattle.mb_segment.specs.{got_by, listed, new_hub, owed, sent_by, sleeping, total};
 
 /// All positions drawn stand in one order, and the first of them are those claimed. What a pass sent and what it
 /// received stand there in its own order. What is drawn or claimed next stands after all that was before.
@@ -20,7 +20,8 @@ pub fn one_order<T>()
 {}
 
 /// A position has one drawer and one taker, and its taker got what its drawer gave. Each position below the number drawn
-/// was drawn by a pass. Each below the number claimed was taken by one, so nobody overtakes.
+/// was drawn by a pass. Each below the number claimed was taken by one, so nobody overtakes. What passes that came back
+/// had done is in the same history.
 pub fn one_taker<T>()
     ensures taker { (s : SegmentState T) (k : Keeps s) (i j : ℕ) (u v : View T) (p : ℕ) (x y : T)
         → IsPassOf s i u → IsPassOf s j v
@@ -37,6 +38,8 @@ pub fn one_taker<T>()
     ensures drawn { (s : SegmentState T) (k : Keeps s) (p : ℕ) → p < drawn_in s
         → (e : Entry T) × (get_elem? (all_entries k.history) p ≡ some e)
         × IsOfPass s e.by (λ a. Has p e.value a.sent) }
+    ensures back { (s : SegmentState T) (k : Keeps s) (n : ℕ) (v : View T) → IsViewOf s n v
+        → v.role ≡ Issuer → Match k.history k.roll v.ends }
 {}
 
 /// Where a receiver loaded the number claimed, and then finds no more drawn, each position drawn is claimed at that
@@ -75,4 +78,6 @@ pub fn no_wake_up_is_lost<T>()
         → drawn_in s ≤ claimed_in s + (k.tokens + total owed s.views) }
     ensures over { (s : SegmentState T) (k : Keeps s) → k.tokens < total sleeping s.views
         → IsOver s → 0 < total closing s.views }
+    ensures debtor { (s : SegmentState T) (k : Keeps s) (n : ℕ) (v : View T) → IsViewOf s n v
+        → 0 < owed v + listed v → v.role ≡ Member }
 {}

@@ -131,6 +131,7 @@ impl<T: Drop, A: Allocator + Drop> Segment<T, A> {
     /// Enters the list of those that wait. The pass then owes a look. False if another pass changed the list. One access.
     pub fn enter(&self, pass: &mut Pass<T>) -> bool
         requires segment { pass.old.seat.table_id ≡ self.now.table.shared.table_id }
+        requires member { (view_in pass.old).role ≡ Member }
         ensures pass { IsStill pass.old pass.new }
         ensures entered { result ≡ true
             → Becomes pass.old pass.new (with_duty enters (view_in pass.old)) }

@@ -193,6 +193,7 @@ impl<T: Drop, A: Allocator + Drop> Segment<T, A> {
 
     fn enter_list<R: Wait>(&self, rt: &R, pass: &mut Pass<T>)
         requires segment { pass.old.seat.table_id ≡ self.now.table.shared.table_id }
+        requires member { (view_in pass.old).role ≡ Member }
         ensures pass { IsStill pass.old pass.new }
         ensures entered { Becomes pass.old pass.new (with_duty enters (view_in pass.old)) }
     {
