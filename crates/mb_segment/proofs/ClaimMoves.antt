@@ -211,7 +211,7 @@ module _ {T : Type 0} where
             debt = λ no_. absurd (no_ role);
             half = ((b.by, here s k n v w at old now_ r.1 idle b bs first refl), home.0);
             low = omega arith;
-            ripe = fit.ripe;
+            ripe = λ j e. let r = fit.ripe j e in let l = r.2 in (r.0, r.1, omega arith);
             full = λ on. sd ∙ fit.full on;
             cut_ = fit.cut_;
             empty = let e = fit.empty in omega arith;

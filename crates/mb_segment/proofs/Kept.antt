@@ -102,7 +102,8 @@ module _ {T : Type 0} where
     debt = f.debt;
     half = o.halves j u.half apart f.half;
     low = let l = f.low in let m = o.more in omega arith;
-    ripe = λ i e. let r = f.ripe i e in let m = o.as_many in (omega arith, o.marks i r.1);
+    ripe = λ i e. let r = f.ripe i e in let m = o.as_many in let t = o.more in let l = r.2 in
+        (omega arith, o.marks i r.1, omega arith);
     full = λ e. let r = f.full e in let m = o.as_many in let d = o.drawn_ in let i = o.within in omega arith;
     cut_ = λ e. let r = f.cut_ e in let m = o.cut_ in omega arith;
     empty = let l = f.empty in let m = o.more in omega arith;
@@ -310,7 +311,7 @@ module _ {T : Type 0} where
   -- a view that saw something more
   pub sighted : (h : History T) (states : List ℕ) (cut hub : ℕ) (roll : List ℕ) (n : ℕ) (v : View T) (x : Sight)
       → Fits h states cut hub roll n v → x.low ≤ taken h
-      → ((i : ℕ) → x.ripe ≡ Some i → (i < length states) × (get_elem? states i ≢ some 0))
+      → ((i : ℕ) → x.ripe ≡ Some i → (i < length states) × (get_elem? states i ≢ some 0) × (i ≤ taken h))
       → (x.full ≡ true → drawn h ≡ length states) → (x.cut ≡ true → 0 < cut) → x.empty ≤ taken h
       → Fits h states cut hub roll n record v { sight = x }
   sighted h states cut hub roll n v x f low ripe full cut_ empty = record {

@@ -181,7 +181,8 @@ module _ {T : Type 0} (slots n : ℕ) (me : Sat T) where
     pub goes_out_woken : 0 < me.0.duty.leaving → old < 4294967296 → old ≡ new + 1
         → Allows Keeps slots n me 2 (λ r. either (r == old) new r)
         (exchanging (with_duty leaves_with_token) (step slots 2 old new none) me)
-    goes_out_woken may woken is = at_list leaves_with_token slots n me old new (owing (λ d. d.leaving) me.0 (leaves_with_token me.0.duty) refl may)
+    goes_out_woken may woken is = at_list leaves_with_token slots n me old new
+        (owing (λ d. d.leaving) me.0 (leaves_with_token me.0.duty) refl may)
         (λ s k at e. let narrow = k.narrow in (
           k.tokens - 1,
           0,

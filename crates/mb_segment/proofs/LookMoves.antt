@@ -1,11 +1,11 @@
 -- The looks of a receiver keep the rule: at the number claimed, then at the number drawn.
-use Rattle.mb_segment.proofs.Base.{Allows, List, [], ap, arith, dec_le, dec_lt, dite, get_elem?, inl, inr, keeps, length}
+use Rattle.mb_segment.proofs.Base.{Allows, List, None, Option, Some, [], ap, arith, dec_le, dec_lt, dite, get_elem?, inl, inr, keeps, length}
 use Rattle.mb_segment.proofs.Base.{none, refl, slice_index, some, step, subst, suc, sym, zero, ℕ, ⊎_elim, ◌%◌, ◌*◌}
 use Rattle.mb_segment.proofs.Base.{◌+◌, ◌-◌, ◌<◌, ◌≡◌, ◌≤◌}
 use Rattle.mb_segment.specs.Vocabulary.{Below, Duty, Fits, Issuer, Keeps, Member, Role, SawAllTaken, Sat, Spent}
 use Rattle.mb_segment.specs.Vocabulary.{Spot, View, all_entries}
-use Rattle.mb_segment.specs.Vocabulary.{always, done, drawn, falls_asleep}
-use Rattle.mb_segment.specs.Vocabulary.{free, listed, looked, no_duty, looking, sees_empty, sees_taken, told, with_duty}
+use Rattle.mb_segment.specs.Vocabulary.{done, drawn, falls_asleep}
+use Rattle.mb_segment.specs.Vocabulary.{free, listed, looked, no_duty, looking, mark_in, seeing_taken, sees_empty, sees_taken, told, with_duty}
 use Rattle.mb_segment.proofs.Spots.{all_length, below_by, nothing_left}
 use Rattle.mb_segment.proofs.Halves.{free_open}
 use Rattle.mb_segment.proofs.Kept.{Goes, Plain, St, StaysIdle, at0, at1, at_rest, loaded, refit, settled, sighted, stays}
@@ -36,9 +36,13 @@ pub all_drawn : (k_cut undrawn n r size : ℕ) → free k_cut undrawn ≡ 0 → 
 all_drawn zero undrawn n r size none_ is same_ small = omega arith
 all_drawn (suc c) undrawn n r size none_ is same_ small = omega arith
 
+mark_below : (x : Option ℕ) (r : ℕ) → ((j : ℕ) → x ≡ Some j → j ≤ r) → mark_in x ≤ r + 1
+mark_below None r all = omega arith
+mark_below (Some j) r all = let l = all j refl in omega arith
+
 module _ {T : Type 0} where
   pub sees_taken_at : (slots n : ℕ) (me : Sat T)
-      → Allows Keeps slots n me 1 (λ r. r) (always sees_taken (step slots 1 0 0 none) me)
+      → Allows Keeps slots n me 1 (λ r. r) (seeing_taken (step slots 1 0 0 none) me)
   sees_taken_at slots n me s k homes at small =
       let now_ = at1 s k in
       let r = slice_index s.words 1 in
@@ -50,7 +54,7 @@ module _ {T : Type 0} where
             (sighted k.history k.states k.cut k.hub k.roll n me.0 record me.0.sight { low = r } fit
             (omega arith) fit.ripe fit.full fit.cut_ fit.empty)
             (at_rest s k me.0 (sees_taken r me.0) refl)),
-        (refl, refl),
+        ((refl, refl), mark_below me.0.sight.ripe r (λ j e. let l = (fit.ripe j e).2 in omega arith)),
       )
 
   -- nothing waits where no more are drawn than were claimed before

@@ -160,7 +160,7 @@ module _ {T : Type 0} where
                 debt = λ no_. absurd (no_ role);
                 half = tt;
                 low = fit.low;
-                ripe = λ j e. let r = fit.ripe j e in (omega arith, read_marks s k n v w at p half j r.1);
+                ripe = λ j e. let r = fit.ripe j e in (omega arith, read_marks s k n v w at p half j r.1, r.2);
                 full = λ e. let f = fit.full e in omega arith;
                 cut_ = fit.cut_;
                 empty = fit.empty;

@@ -37,7 +37,7 @@ pub record Fits {T : Type 0} (h : History T) (states : List ℕ) (cut hub : ℕ)
   pub debt : (v.role ≡ Member → ⊥) → v.duty ≡ no_duty
   pub half : HalfFits h states n v.half
   pub low : v.sight.low ≤ taken h
-  pub ripe : (k : ℕ) → v.sight.ripe ≡ Some k → (k < length states) × (get_elem? states k ≢ some 0)
+  pub ripe : (k : ℕ) → v.sight.ripe ≡ Some k → (k < length states) × (get_elem? states k ≢ some 0) × (k ≤ taken h)
   pub full : v.sight.full ≡ true → drawn h ≡ length states
   pub cut_ : v.sight.cut ≡ true → 0 < cut
   pub empty : v.sight.empty ≤ taken h

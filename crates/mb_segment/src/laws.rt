@@ -43,8 +43,8 @@ pub fn one_taker<T>()
 {}
 
 /// Where a receiver loaded the number claimed, and then finds no more drawn, each position drawn is claimed at that
-/// load. What it had sent or seen marked then was claimed, and stays so. Where a pass was told that no value can come any
-/// more, none waits and no more will be drawn; where it was told that the segment is full or cut, it is.
+/// load. What it had sent or seen marked then was claimed, and stays so. Where a pass was told that the segment is done,
+/// none waits and no more will be drawn; where it was told that the segment is full or cut, it is.
 pub fn over_is_true<T>()
     ensures empty { (s : SegmentState T) (k : Keeps s) (n : ℕ) (v : View T) → IsViewOf s n v
         → drawn_in s ≤ v.sight.low → (drawn_in s ≡ claimed_in s) × (k.history.rest ≡ []) }
@@ -69,8 +69,9 @@ pub fn one_cutter<T>()
         → (drawn_in s ≡ 0) × (IsCut s → ⊥) }
 {}
 
-/// Between any two steps: if a receiver sleeps without a token, no more values wait than there are tokens given, and
-/// looks and wakes owed. And if no more will be drawn, a closer still owes tokens.
+/// Between any two steps: if a receiver sleeps without a token, no more values wait than there are tokens given and debts
+/// owed: looks, wakes, and what closers owe. And if no more will be drawn, a closer still owes tokens. Whoever owes or is
+/// in the list is a pass that is out.
 pub fn no_wake_up_is_lost<T>()
     ensures owed { (s : SegmentState T) (k : Keeps s) → 0 < total sleeping s.views
         → claimed_in s < drawn_in s → 0 < k.tokens + total owed s.views }
