@@ -119,64 +119,64 @@ module _ {T : Type 0} (slots n : ℕ) (me : Sat T) where
         (exchanging (with_duty has_woken) (step slots 2 old new none) me)
     gives_wake owes waits room is = at_list has_woken slots n me old new
         (owing (λ d. d.wakes) me.0 (has_woken me.0.duty) refl owes) (λ s k at e. let narrow = k.narrow in (
-      k.tokens + 1,
-      k.waiting - 1,
-      omega arith,
-      omega arith,
-      omega arith,
-      (λ L O C L' O' C' l o c le q h. (
-        ⊎_elim (λ x. inl (omega arith)) (λ x. inr (omega arith)) q,
-        ⊎_elim (λ x. inl (omega arith)) (λ x. inr (omega arith)) h,
-      )),
-    ))
+          k.tokens + 1,
+          k.waiting - 1,
+          omega arith,
+          omega arith,
+          omega arith,
+          (λ L O C L' O' C' l o c le q h. (
+            ⊎_elim (λ x. inl (omega arith)) (λ x. inr (omega arith)) q,
+            ⊎_elim (λ x. inl (omega arith)) (λ x. inr (omega arith)) h,
+          )),
+        ))
 
     pub gives_all : 4294967296 ≤ old → old % 4294967296 < 4294967295 → new + 4294967296 ≡ old + 1
         → Allows Keeps slots n me 2 (λ r. either (r == old) new r)
         (exchanging (with_duty same) (step slots 2 old new none) me)
     gives_all waits room is = at_list same slots n me old new
         (λ _ e. e) (λ s k at e. let narrow = k.narrow in (
-      k.tokens + 1,
-      k.waiting - 1,
-      omega arith,
-      omega arith,
-      omega arith,
-      (λ L O C L' O' C' l o c le q h. (
-        ⊎_elim (λ x. inl (omega arith)) (λ x. inr (omega arith)) q,
-        ⊎_elim (λ x. inl (omega arith)) (λ x. inr (omega arith)) h,
-      )),
-    ))
+          k.tokens + 1,
+          k.waiting - 1,
+          omega arith,
+          omega arith,
+          omega arith,
+          (λ L O C L' O' C' l o c le q h. (
+            ⊎_elim (λ x. inl (omega arith)) (λ x. inr (omega arith)) q,
+            ⊎_elim (λ x. inl (omega arith)) (λ x. inr (omega arith)) h,
+          )),
+        ))
 
     pub goes_in : me.0.role ≡ Member → new ≡ old + 4294967296
         → Allows Keeps slots n me 2 (λ r. either (r == old) new r)
         (exchanging (with_duty enters) (step slots 2 old new none) me)
     goes_in role is = at_list enters slots n me old new
         (λ no_ e. absurd (no_ role)) (λ s k at e. let narrow = k.narrow in (
-      k.tokens,
-      k.waiting + 1,
-      omega arith,
-      narrow,
-      omega arith,
-      (λ L O C L' O' C' l o c le q h. (
-        ⊎_elim (λ x. inl (omega arith)) (λ x. inr (omega arith)) q,
-        ⊎_elim (λ x. inl (omega arith)) (λ x. inr (omega arith)) h,
-      )),
-    ))
+          k.tokens,
+          k.waiting + 1,
+          omega arith,
+          narrow,
+          omega arith,
+          (λ L O C L' O' C' l o c le q h. (
+            ⊎_elim (λ x. inl (omega arith)) (λ x. inr (omega arith)) q,
+            ⊎_elim (λ x. inl (omega arith)) (λ x. inr (omega arith)) h,
+          )),
+        ))
 
     pub goes_out : 0 < me.0.duty.leaving → old ≡ new + 4294967296
         → Allows Keeps slots n me 2 (λ r. either (r == old) new r)
         (exchanging (with_duty leaves) (step slots 2 old new none) me)
     goes_out may is = at_list leaves slots n me old new
         (owing (λ d. d.leaving) me.0 (leaves me.0.duty) refl may) (λ s k at e. let narrow = k.narrow in (
-      k.tokens,
-      k.waiting - 1,
-      omega arith,
-      narrow,
-      omega arith,
-      (λ L O C L' O' C' l o c le q h. (
-        ⊎_elim (λ x. inl (omega arith)) (λ x. inr (omega arith)) q,
-        ⊎_elim (λ x. inl (omega arith)) (λ x. inr (omega arith)) h,
-      )),
-    ))
+          k.tokens,
+          k.waiting - 1,
+          omega arith,
+          narrow,
+          omega arith,
+          (λ L O C L' O' C' l o c le q h. (
+            ⊎_elim (λ x. inl (omega arith)) (λ x. inr (omega arith)) q,
+            ⊎_elim (λ x. inl (omega arith)) (λ x. inr (omega arith)) h,
+          )),
+        ))
 
     pub goes_out_woken : 0 < me.0.duty.leaving → old < 4294967296 → old ≡ new + 1
         → Allows Keeps slots n me 2 (λ r. either (r == old) new r)
@@ -197,13 +197,13 @@ module _ {T : Type 0} (slots n : ℕ) (me : Sat T) where
         (exchanging (with_duty wakes_up) (step slots 2 old new none) me)
     accepts sleeps token is = at_list wakes_up slots n me old new
         (owing (λ d. d.asleep) me.0 (wakes_up me.0.duty) refl sleeps) (λ s k at e. let narrow = k.narrow in (
-      k.tokens - 1,
-      k.waiting,
-      omega arith,
-      omega arith,
-      omega arith,
-      (λ L O C L' O' C' l o c le q h. (
-        ⊎_elim (λ x. inl (omega arith)) (λ x. inr (omega arith)) q,
-        ⊎_elim (λ x. inl (omega arith)) (λ x. inr (omega arith)) h,
-      )),
-    ))
+          k.tokens - 1,
+          k.waiting,
+          omega arith,
+          omega arith,
+          omega arith,
+          (λ L O C L' O' C' l o c le q h. (
+            ⊎_elim (λ x. inl (omega arith)) (λ x. inr (omega arith)) q,
+            ⊎_elim (λ x. inl (omega arith)) (λ x. inr (omega arith)) h,
+          )),
+        ))

@@ -134,7 +134,7 @@ impl<T: Drop, A: Allocator + Drop> Segment<T, A> {
         self.table.shared.load::<SeesTaken>(&mut pass.seat, TAKEN)
     }
 
-    /// Looks whether the position is marked. It is none behind the number claimed.
+    /// Looks whether the position is marked. It is not above the number claimed that the pass loaded.
     pub(crate) fn load_mark<P: Position>(&self, pass: &mut Pass<T>, at: u64) -> u64
         requires segment { pass.old.seat.table_id ≡ self.now.table.shared.table_id }
         requires picked { P.position ≡ at }
