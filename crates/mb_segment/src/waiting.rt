@@ -273,7 +273,8 @@ impl<T: Drop, A: Allocator + Drop> Segment<T, A> {
         unreachable!()
     }
 
-    /// Receives the first value, and sleeps until there is one. `None` only if none can come any more, and from then on.
+    /// Receives the first value, and sleeps until there is one. `None` only if none can come any more, and no
+    /// later call gives a value then.
     pub fn receive<R: Wait>(&self, rt: &R, pass: &mut Pass<T>) -> Option<T>
         requires segment { pass.old.seat.table_id ≡ self.now.table.shared.table_id }
         requires free { IsFree pass.old }
