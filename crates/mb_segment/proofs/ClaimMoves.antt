@@ -9,7 +9,7 @@ use Rattle.mb_segment.specs.Vocabulary.{Writes, all_entries, claiming, done, dra
 use Rattle.mb_segment.specs.Vocabulary.{got_by, looked, spot, spots_by, taken, took, with_duty}
 use Rattle.mb_segment.proofs.Spots.{below_length, entries_append, entry_of, heard_claim, size_set, snoc_at, to_other}
 use Rattle.mb_segment.proofs.Spots.{to_own}
-use Rattle.mb_segment.proofs.Halves.{half_else, half_here, match_kept, no_hub, no_reads, no_spent, no_writes}
+use Rattle.mb_segment.proofs.Halves.{half_else, half_here, match_kept, may_take, no_hub, no_reads, no_spent, no_writes}
 use Rattle.mb_segment.proofs.Kept.{Goes, Next, Same, St, at1, exchanges, moved}
 
 -- pass n claims position `old`, the first that waits. It saw that it was marked
@@ -156,6 +156,7 @@ module _ {T : Type 0} where
       let many = k.sized in
       let in_ = k.within in
       let low_ = fit.low in
+      let may = may_take k.history k.states k.cut k.hub k.roll n v fit (omega arith) in
       let next : new ≡ taken g = omega arith in
       let frees : free k.cut (length k.states - drawn g) ≡ free k.cut (length k.states - drawn k.history)
       = ap (λ (m : ℕ). free k.cut (length k.states - m)) sd in
@@ -207,9 +208,10 @@ module _ {T : Type 0} where
             };
             hub_ = λ q. absurd (no_hub v.role role q);
             back = λ q. absurd (no_spent v.role role q);
+            debt = λ no_. absurd (no_ role);
             half = ((b.by, here s k n v w at old now_ r.1 idle b bs first refl), home.0);
             low = omega arith;
-            ripe = fit.ripe;
+            ripe = λ j e. let r = fit.ripe j e in let l = r.2 in (r.0, r.1, omega arith);
             full = λ on. sd ∙ fit.full on;
             cut_ = fit.cut_;
             empty = let e = fit.empty in omega arith;
@@ -222,7 +224,7 @@ module _ {T : Type 0} where
             ⊎_elim (λ y. inl (omega arith)) (λ y. inr (omega arith)) h,
           );
         },
-        ((λ _. (b.value, refl, refl)), λ ne. absurd (ne e)),
+        ((λ _. (b.value, refl, refl, may)), λ ne. absurd (ne e)),
       )
 
   claims_as : (f : Duty → Duty) (slots n : ℕ) (me : Sat T) (old new : ℕ) → IsLook f me.0.duty → me.0.role ≡ Member

@@ -11,7 +11,7 @@ use Rattle.mb_segment.specs.Vocabulary.{all_entries, asking, did_cut, drawing, d
 use Rattle.mb_segment.specs.Vocabulary.{entries, exchanging, owes_all, owes_wake, seeing_cut, sees_cut}
 use Rattle.mb_segment.specs.Vocabulary.{sees_full, sent_by, spot, spots_by, taken, with_duty}
 use Rattle.mb_segment.proofs.Spots.{all_length, below_length, by_other, by_own, heard_draw, same_some, size_set, snoc_at}
-use Rattle.mb_segment.proofs.Halves.{free_open, free_shut, half_else, half_here, match_kept, no_hub, no_reads}
+use Rattle.mb_segment.proofs.Halves.{free_open, free_shut, half_else, half_here, match_kept, may_send, no_hub, no_reads}
 use Rattle.mb_segment.proofs.Halves.{no_spent, no_writes, uncut}
 use Rattle.mb_segment.proofs.Kept.{Goes, Next, Same, St, at0, at_rest, exchanges, loaded, moved, now}
 use Rattle.mb_segment.proofs.Kept.{settled, sighted, stays, taken_stay, waits_stay}
@@ -137,6 +137,7 @@ module _ {T : Type 0} where
       let open_ : k.cut ≡ 0 = omega arith in
       let now_ : old ≡ drawn h = omega arith in
       let fits_ : old < length k.states = omega arith in
+      let may = may_send h k.states k.cut k.hub k.roll n v fit role k.cutter open_ (omega arith) in
       let g = longer s k n v at x old now_ fits_ idle w refl in
       let mo = more s k n v at x old now_ fits_ idle w refl in
       let lent_ = size_set s.homes old none in
@@ -155,7 +156,7 @@ module _ {T : Type 0} where
       } in (
         w,
         takes old None,
-        (open_slot s k n v at x old now_ fits_ idle w),
+        (k.undrawn old (omega arith) fits_).1,
         moved s k n v w x' at record {
           words = ap (λ l. slice_set l 0 new) k.words ∙ ap
               (λ r. r ∷ taken h ∷ (k.tokens + 4294967296 * k.waiting) ∷ k.states) next;
@@ -191,6 +192,7 @@ module _ {T : Type 0} where
             };
             hub_ = λ r. absurd (no_hub v.role role r);
             back = λ r. absurd (no_spent v.role role r);
+            debt = λ no_. absurd (no_ role);
             half = draw_own s k n v at x old now_ fits_ idle w refl;
             low = fit.low;
             ripe = fit.ripe;
@@ -205,15 +207,9 @@ module _ {T : Type 0} where
             ⊎_elim (λ y. inl (omega arith)) (λ y. inr (⊎_elim (λ z. omega arith) (λ z. omega arith) debt.5)) h',
           );
         },
-        ((λ _. (refl, refl)), λ ne. absurd (ne e)),
+        ((λ _. (refl, refl, may)), λ ne. absurd (ne e)),
       ))
       (λ r ne. ((λ e. absurd (ne e)), λ _. (refl, refl)))
-    where
-      open_slot : (s : St T) (k : Keeps s) (n : ℕ) (v : View T) (at : get_elem? s.views n ≡ some v) (x : T)
-          (old : ℕ)
-          (is : old ≡ drawn k.history) (room : old < length k.states) (idle : v.half ≡ Nothing) (w : View T)
-          → get_elem? s.homes old ≡ some (some None)
-      open_slot s k n v at x old is room idle w = (k.undrawn old (omega arith) room).1
 
   -- the same, told of the value that the proof picked
   draws_picked : (f : Duty → Duty) (x : T) (picked : Option T) → picked ≡ Some x → (slots n : ℕ) (me : Sat T)
@@ -314,6 +310,7 @@ module _ {T : Type 0} where
             };
             hub_ = λ r. absurd (no_hub v.role role r);
             back = λ r. absurd (no_spent v.role role r);
+            debt = λ no_. absurd (no_ role);
             half = half_cut h (Some n) k.states n v.half fit.half;
             low = fit.low;
             ripe = fit.ripe;

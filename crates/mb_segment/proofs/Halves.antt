@@ -1,10 +1,10 @@
 -- What passes have begun, roles, free positions, and the accounts of passes that came back.
-use Rattle.mb_segment.proofs.Base.{Bool, List, None, Option, Some, [], ap, arith, false, get_elem?, inl, inr, refl}
+use Rattle.mb_segment.proofs.Base.{Bool, List, None, Option, Some, [], ap, arith, false, get_elem?, inl, inr, length, refl}
 use Rattle.mb_segment.proofs.Base.{replicate, set_else, set_here, slice_set, some, some-injective, subst, suc}
-use Rattle.mb_segment.proofs.Base.{sym, true, zero, ℕ, ℕ_discrete, ◌<◌, ◌∙◌, ◌∷◌, ◌≡◌, ◌⊎◌}
-use Rattle.mb_segment.specs.Vocabulary.{Account, Half, HasHalf, History, In, Issuer, Match, Member, Nothing}
-use Rattle.mb_segment.specs.Vocabulary.{Reads, Role, Spent, Spot, View, Writes, cuts_by, free, got_by, has_cut, if_hub, is_of}
-use Rattle.mb_segment.specs.Vocabulary.{one_if_member, or, sent_by}
+use Rattle.mb_segment.proofs.Base.{sym, true, zero, ℕ, ℕ_discrete, ◌+◌, ◌-◌, ◌<◌, ◌∙◌, ◌∷◌, ◌≡◌, ◌⊎◌}
+use Rattle.mb_segment.specs.Vocabulary.{Account, Duty, Fits, Half, HasHalf, History, In, Issuer, Match, MaySend, MayTake, Member, Nothing}
+use Rattle.mb_segment.specs.Vocabulary.{Reads, Role, Spent, Spot, View, Writes, cuts_by, drawn, free, got_by, has_cut, if_hub, is_of}
+use Rattle.mb_segment.specs.Vocabulary.{listed, no_duty, one_if_member, or, owed, sent_by}
 use Rattle.mb_segment.proofs.Totals.{there}
 
 pub free_open : (cut undrawn : ℕ) → cut ≡ 0 → free cut undrawn ≡ undrawn
@@ -38,6 +38,10 @@ spent_is_no_member e = no_spent Member refl (sym e)
 pub either_over : (a b : Bool) → or a b ≡ true → (a ≡ true) ⊎ (b ≡ true)
 either_over true b e = inl refl
 either_over false b e = inr e
+
+pub not_true : (b : Bool) → (b ≡ true → ⊥) → b ≡ false
+not_true true no_ = absurd (no_ refl)
+not_true false no_ = refl
 
 -- the slots of a new segment
 abbrev pub empty_slots : (T : Type 0) → ℕ → List (Option T)
@@ -85,6 +89,38 @@ module _ {T : Type 0} where
   pub half_here : (views : List (View T)) (n : ℕ) (v w : View T) → get_elem? views n ≡ some v → (half : Half T)
       → w.half ≡ half → HasHalf (slice_set views n w) n half
   half_here views n v w at half e = (w, set_here views n w (there views n v at), e)
+
+  -- a pass of an open segment with a free position was told nothing that rules a draw out
+  pub may_send : (h : History T) (states : List ℕ) (cut hub : ℕ) (roll : List ℕ) (n : ℕ) (v : View T)
+      → Fits h states cut hub roll n v → v.role ≡ Member → cut ≡ cuts_by h.cutter → cut ≡ 0
+      → drawn h < length states → MaySend v
+  may_send h states cut hub roll n v f role is open_ room = (
+    not_true v.sight.full (λ on. let y = f.full on in absurd (omega arith)),
+    not_true v.sight.cut (λ on. let y = f.cut_ on in absurd (omega arith)),
+    (f.member role).cut ∙ uncut h.cutter n (sym is ∙ open_),
+    not_true v.over (λ on. let y = (f.over on).0 in let e = free_open cut (length states - drawn h) open_ in
+        absurd (omega arith)),
+  )
+
+  -- where a value waits, nobody was told that none can come
+  pub may_take : (h : History T) (states : List ℕ) (cut hub : ℕ) (roll : List ℕ) (n : ℕ) (v : View T)
+      → Fits h states cut hub roll n v → 0 < length h.rest → MayTake v
+  may_take h states cut hub roll n v f some_ = not_true v.over
+      (λ on. let y : length h.rest ≡ 0 = ap length (f.over on).1 in absurd (omega arith))
+
+  -- who owes something, or is in the list, is a pass that is out
+  pub is_out : (v : View T) → ((v.role ≡ Member → ⊥) → v.duty ≡ no_duty) → 0 < owed v + listed v → v.role ≡ Member
+  is_out v debt some_ = go v.role refl
+    where
+      nothing : (v.role ≡ Member → ⊥) → ⊥
+      nothing no_ =
+          let a : owed v ≡ 0 = ap (λ (d : Duty). d.wakes + d.looks + d.fresh + d.closing) (debt no_) in
+          let b : listed v ≡ 0 = ap (λ (d : Duty). d.fresh + d.asleep + d.leaving) (debt no_) in omega arith
+
+      go : (r : Role) → v.role ≡ r → v.role ≡ Member
+      go Issuer e = absurd (nothing (λ m. no_hub v.role m e))
+      go Member e = e
+      go Spent e = absurd (nothing (λ m. no_spent v.role m e))
 
   pub match_kept : (h g : History T) (roll : List ℕ) (as_ : List (Account T))
       → ((j : ℕ) → In j roll → (sent_by j g ≡ sent_by j h) × (got_by j g ≡ got_by j h) × (has_cut j g ≡ has_cut j h))

@@ -5,8 +5,8 @@ use Rattle.mb_segment.proofs.Base.{set_again, set_else, set_here, slice_index, s
 use Rattle.mb_segment.proofs.Base.{some-injective, stepped, subst, sym, true, ℕ, ℕ_discrete, ⊎_elim, ◌*◌, ◌+◌}
 use Rattle.mb_segment.proofs.Base.{◌-◌, ◌<◌, ◌==◌, ◌∙◌, ◌∷◌, ◌≡◌, ◌≢◌, ◌≤◌}
 use Rattle.mb_segment.specs.Vocabulary.{Account, AllHeed, Duty, Fits, Half, HalfFits, HasHalf, History, Homes, Keeps, Known}
-use Rattle.mb_segment.specs.Vocabulary.{Match, Quiet, Reads, Sat, Shut, Sight, Taken, Undrawn, View, Waiting}
-use Rattle.mb_segment.specs.Vocabulary.{Writes, closing, cuts_by, drawn, free, got_by, has_cut, if_hub, listed, member}
+use Rattle.mb_segment.specs.Vocabulary.{Match, Member, Quiet, Reads, Sat, Shut, Sight, Taken, Undrawn, View, Waiting}
+use Rattle.mb_segment.specs.Vocabulary.{Writes, closing, cuts_by, drawn, free, got_by, has_cut, if_hub, listed, member, no_duty}
 use Rattle.mb_segment.specs.Vocabulary.{one_if_member, out, owed, sent_by, sleeping, spot, taken, total}
 use Rattle.mb_segment.proofs.Totals.{asleep_listed, length_set, there, total_set}
 use lib.Seq.{set-get_or}
@@ -99,9 +99,11 @@ module _ {T : Type 0} where
     hub_ = λ r. let m = f.hub_ r in
         record { here = m.here; ends = o.roll u.ends m.ends; nothing = m.nothing; idle = m.idle };
     back = f.back;
+    debt = f.debt;
     half = o.halves j u.half apart f.half;
     low = let l = f.low in let m = o.more in omega arith;
-    ripe = λ i e. let r = f.ripe i e in let m = o.as_many in (omega arith, o.marks i r.1);
+    ripe = λ i e. let r = f.ripe i e in let m = o.as_many in let t = o.more in let l = r.2 in
+        (omega arith, o.marks i r.1, omega arith);
     full = λ e. let r = f.full e in let m = o.as_many in let d = o.drawn_ in let i = o.within in omega arith;
     cut_ = λ e. let r = f.cut_ e in let m = o.cut_ in omega arith;
     empty = let l = f.empty in let m = o.more in omega arith;
@@ -265,10 +267,13 @@ module _ {T : Type 0} where
     laws = laws;
   }
 
-  -- ---- a view that differs in what it owes alone
+  -- ---- a view that differs in what it owes alone. Only a pass owes anything
+  abbrev pub StaysIdle : View T → Duty → Type 0
+  StaysIdle v d = (v.role ≡ Member → ⊥) → v.duty ≡ no_duty → d ≡ no_duty
+
   abbrev pub Plain : View T → View T → Type 0
   Plain v w = (w.role ≡ v.role) × (w.account ≡ v.account) × (w.half ≡ v.half) × (w.sight ≡ v.sight)
-      × (w.over ≡ v.over) × (w.ends ≡ v.ends) × (w.known ≡ v.known)
+      × (w.over ≡ v.over) × (w.ends ≡ v.ends) × (w.known ≡ v.known) × StaysIdle v w.duty
 
   pub refit : (h : History T) (states : List ℕ) (cut hub : ℕ) (roll : List ℕ) (n : ℕ) (v w : View T) → Plain v w
       → Fits h states cut hub roll n v → Fits h states cut hub roll n w
@@ -288,6 +293,7 @@ module _ {T : Type 0} where
     };
     back = λ r. let m = f.back (sym p.0 ∙ r) in
         (m.0, p.2 ∙ m.1, ap (λ (a : Account T). a.sent) p.1 ∙ m.2);
+    debt = λ no_. let none_ : v.role ≡ Member → ⊥ = λ r. no_ (p.0 ∙ r) in p.7 none_ (f.debt none_);
     half = subst (λ (x : Half T). HalfFits h states n x) (sym p.2) f.half;
     low = subst (λ (x : Sight). x.low ≤ taken h) (sym p.3) f.low;
     ripe = λ i e. f.ripe i (sym (ap (λ (x : Sight). x.ripe) p.3) ∙ e);
@@ -305,7 +311,7 @@ module _ {T : Type 0} where
   -- a view that saw something more
   pub sighted : (h : History T) (states : List ℕ) (cut hub : ℕ) (roll : List ℕ) (n : ℕ) (v : View T) (x : Sight)
       → Fits h states cut hub roll n v → x.low ≤ taken h
-      → ((i : ℕ) → x.ripe ≡ Some i → (i < length states) × (get_elem? states i ≢ some 0))
+      → ((i : ℕ) → x.ripe ≡ Some i → (i < length states) × (get_elem? states i ≢ some 0) × (i ≤ taken h))
       → (x.full ≡ true → drawn h ≡ length states) → (x.cut ≡ true → 0 < cut) → x.empty ≤ taken h
       → Fits h states cut hub roll n record v { sight = x }
   sighted h states cut hub roll n v x f low ripe full cut_ empty = record {
@@ -314,6 +320,7 @@ module _ {T : Type 0} where
     hub_ = λ r. let m = f.hub_ r in
         record { here = m.here; ends = m.ends; nothing = m.nothing; idle = m.idle };
     back = f.back;
+    debt = f.debt;
     half = f.half;
     low = low;
     ripe = ripe;

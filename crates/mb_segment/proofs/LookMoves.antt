@@ -1,23 +1,27 @@
 -- The looks of a receiver keep the rule: at the number claimed, then at the number drawn.
-use Rattle.mb_segment.proofs.Base.{Allows, List, [], ap, arith, dec_le, dec_lt, dite, get_elem?, inl, inr, keeps, length}
+use Rattle.mb_segment.proofs.Base.{Allows, List, None, Option, Some, [], ap, arith, dec_le, dec_lt, dite, get_elem?, inl, inr, keeps, length}
 use Rattle.mb_segment.proofs.Base.{none, refl, slice_index, some, step, subst, suc, sym, zero, ℕ, ⊎_elim, ◌%◌, ◌*◌}
 use Rattle.mb_segment.proofs.Base.{◌+◌, ◌-◌, ◌<◌, ◌≡◌, ◌≤◌}
 use Rattle.mb_segment.specs.Vocabulary.{Below, Duty, Fits, Issuer, Keeps, Member, Role, SawAllTaken, Sat, Spent}
 use Rattle.mb_segment.specs.Vocabulary.{Spot, View, all_entries}
-use Rattle.mb_segment.specs.Vocabulary.{always, done, drawn, falls_asleep}
-use Rattle.mb_segment.specs.Vocabulary.{free, looked, looking, sees_empty, sees_taken, told, with_duty}
+use Rattle.mb_segment.specs.Vocabulary.{done, drawn, falls_asleep}
+use Rattle.mb_segment.specs.Vocabulary.{free, listed, looked, no_duty, looking, mark_in, seeing_taken, sees_empty, sees_taken, told, with_duty}
 use Rattle.mb_segment.proofs.Spots.{all_length, below_by, nothing_left}
 use Rattle.mb_segment.proofs.Halves.{free_open}
-use Rattle.mb_segment.proofs.Kept.{Goes, Plain, St, at0, at1, at_rest, loaded, refit, settled, sighted, stays}
+use Rattle.mb_segment.proofs.Kept.{Goes, Plain, St, StaysIdle, at0, at1, at_rest, loaded, refit, settled, sighted, stays}
 
 -- a view that differs in what it owes alone
-pub plain : {T : Type 0} (f : Duty → Duty) (v : View T) → Plain v (with_duty f v)
-plain f v = (refl, refl, refl, refl, refl, refl, refl)
+pub plain : {T : Type 0} (f : Duty → Duty) (v : View T) → StaysIdle v (f v.duty) → Plain v (with_duty f v)
+plain f v idle = (refl, refl, refl, refl, refl, refl, refl, idle)
+
+-- who owes something, or is in the list, is a pass
+pub owing : {T : Type 0} (x : Duty → ℕ) (v : View T) (d : Duty) → x no_duty ≡ 0 → 0 < x v.duty → StaysIdle v d
+owing x v d none_ some_ no_ e = let q : x v.duty ≡ x no_duty = ap x e in absurd (omega arith)
 
 -- the pass owes other things, and is in the list as often as before
-abbrev pub StaysListed : (Duty → Duty) → Duty → Type 0
-StaysListed f d = ((f d).fresh + (f d).asleep + (f d).leaving ≡ d.fresh + d.asleep + d.leaving)
-    × ((f d).closing ≡ d.closing)
+abbrev pub StaysListed : {T : Type 0} → (Duty → Duty) → View T → Type 0
+StaysListed f v = (listed (with_duty f v) ≡ listed v) × ((f v.duty).closing ≡ v.duty.closing)
+    × StaysIdle v (f v.duty)
 
 -- a number drawn at or above the number of positions, with the top bit or without, says that none is free
 pub none_free : (k_cut undrawn r n : ℕ) → n ≤ r → r ≡ (n - undrawn) + 9223372036854775808 * k_cut → undrawn ≤ n
@@ -32,9 +36,13 @@ pub all_drawn : (k_cut undrawn n r size : ℕ) → free k_cut undrawn ≡ 0 → 
 all_drawn zero undrawn n r size none_ is same_ small = omega arith
 all_drawn (suc c) undrawn n r size none_ is same_ small = omega arith
 
+mark_below : (x : Option ℕ) (r : ℕ) → ((j : ℕ) → x ≡ Some j → j ≤ r) → mark_in x ≤ r + 1
+mark_below None r all = omega arith
+mark_below (Some j) r all = let l = all j refl in omega arith
+
 module _ {T : Type 0} where
   pub sees_taken_at : (slots n : ℕ) (me : Sat T)
-      → Allows Keeps slots n me 1 (λ r. r) (always sees_taken (step slots 1 0 0 none) me)
+      → Allows Keeps slots n me 1 (λ r. r) (seeing_taken (step slots 1 0 0 none) me)
   sees_taken_at slots n me s k homes at small =
       let now_ = at1 s k in
       let r = slice_index s.words 1 in
@@ -46,7 +54,7 @@ module _ {T : Type 0} where
             (sighted k.history k.states k.cut k.hub k.roll n me.0 record me.0.sight { low = r } fit
             (omega arith) fit.ripe fit.full fit.cut_ fit.empty)
             (at_rest s k me.0 (sees_taken r me.0) refl)),
-        (refl, refl),
+        ((refl, refl), mark_below me.0.sight.ripe r (λ j e. let l = (fit.ripe j e).2 in omega arith)),
       )
 
   -- nothing waits where no more are drawn than were claimed before
@@ -74,7 +82,7 @@ module _ {T : Type 0} where
           subst (λ (l : List (Spot T)). Below r l) (sym (fit.member e).sent)
           (below_by n 0 r (all_entries k.history) (omega arith))
 
-  looks_at : (f g : Duty → Duty) (slots n : ℕ) (me : Sat T) → StaysListed f me.0.duty → StaysListed g me.0.duty
+  looks_at : (f g : Duty → Duty) (slots n : ℕ) (me : Sat T) → StaysListed f me.0 → StaysListed g me.0
       → (g me.0.duty).asleep ≡ me.0.duty.asleep
       → (s : St T) (k : Keeps s) → length s.homes ≡ slots → get_elem? s.views n ≡ some me.0
       → Dec (slice_index s.words 0 % 9223372036854775808 ≤ me.0.sight.low) → Dec (slice_index s.words 0 < slots)
@@ -105,7 +113,7 @@ module _ {T : Type 0} where
         loaded s 0 n me.1 w (settled s k n me.0 w at (omega arith) refl refl refl
             (sighted k.history k.states k.cut k.hub k.roll n (with_duty f me.0)
             record me.0.sight { empty = slice_index s.words 0 }
-            (refit k.history k.states k.cut k.hub k.roll n me.0 (with_duty f me.0) (plain f me.0) fit)
+            (refit k.history k.states k.cut k.hub k.roll n me.0 (with_duty f me.0) (plain f me.0 lf.2) fit)
             fit.low fit.ripe fit.full fit.cut_ (omega arith))
             (λ L O C L' O' C' l o c le q h. (inr (omega arith), inr (omega arith)))),
         (
@@ -121,7 +129,7 @@ module _ {T : Type 0} where
       let zero_ : length k.history.rest ≡ 0 = ap length empty in
       let shut_ = none_free k.cut (length k.states - drawn k.history) (slice_index s.words 0) (length k.states)
       (omega arith) (omega arith) (omega arith) in
-      let fit = refit k.history k.states k.cut k.hub k.roll n me.0 (with_duty g me.0) (plain g me.0)
+      let fit = refit k.history k.states k.cut k.hub k.roll n me.0 (with_duty g me.0) (plain g me.0 lg.2)
       (k.fits n me.0 at) in
       let l = lg.0 in (
         w,
@@ -134,6 +142,7 @@ module _ {T : Type 0} where
               hub_ = λ r. let m = fit.hub_ r in record
                   { here = m.here; ends = m.ends; nothing = m.nothing; idle = m.idle };
               back = fit.back;
+              debt = fit.debt;
               half = fit.half;
               low = fit.low;
               ripe = fit.ripe;
@@ -148,7 +157,7 @@ module _ {T : Type 0} where
         ((λ lt. absurd (omega arith)), (λ _ lt. absurd (over_ lt)), λ _ _. (refl, refl)),
       )
 
-  looks_as : (f g : Duty → Duty) (slots n : ℕ) (me : Sat T) → StaysListed f me.0.duty → StaysListed g me.0.duty
+  looks_as : (f g : Duty → Duty) (slots n : ℕ) (me : Sat T) → StaysListed f me.0 → StaysListed g me.0
       → (g me.0.duty).asleep ≡ me.0.duty.asleep
       → Allows Keeps slots n me 0 (λ r. r) (looking f g (step slots 0 0 0 none) me)
   looks_as f g slots n me lf lg sleeps s k homes at small = looks_at f g slots n me lf lg sleeps s k homes at
@@ -156,8 +165,11 @@ module _ {T : Type 0} where
 
   pub looks : (slots n : ℕ) (me : Sat T) → Allows Keeps slots n me 0 (λ r. r)
       (looking looked looked (step slots 0 0 0 none) me)
-  looks slots n me = looks_as looked looked slots n me (refl, refl) (refl, refl) refl
+  looks slots n me = looks_as looked looked slots n me (refl, refl, λ _ e. ap looked e)
+      (refl, refl, λ _ e. ap looked e) refl
 
   pub looks_listed : (slots n : ℕ) (me : Sat T) → 0 < me.0.duty.fresh
       → Allows Keeps slots n me 0 (λ r. r) (looking falls_asleep done (step slots 0 0 0 none) me)
-  looks_listed slots n me fresh = looks_as falls_asleep done slots n me (omega arith, refl) (omega arith, refl) refl
+  looks_listed slots n me fresh = looks_as falls_asleep done slots n me
+      (omega arith, refl, owing (λ d. d.fresh) me.0 (falls_asleep me.0.duty) refl fresh)
+      (omega arith, refl, owing (λ d. d.fresh) me.0 (done me.0.duty) refl fresh) refl

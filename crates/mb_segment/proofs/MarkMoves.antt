@@ -2,7 +2,7 @@
 use Rattle.mb_segment.proofs.Base.{Allows, List, Option, Some, ap, arith, get_elem?, gives, homes_after, inl}
 use Rattle.mb_segment.proofs.Base.{inr, keeps, length, none, refl, rest, set_else, set_here, slice_index}
 use Rattle.mb_segment.proofs.Base.{slice_set, some, some-injective, step, subst, suc, sym, ℕ, ℕ_discrete}
-use Rattle.mb_segment.proofs.Base.{⊎_elim, ◌+◌, ◌-◌, ◌<◌, ◌∙◌, ◌∷◌, ◌≡◌, ◌≢◌}
+use Rattle.mb_segment.proofs.Base.{⊎_elim, ◌+◌, ◌-◌, ◌<◌, ◌∙◌, ◌∷◌, ◌≡◌, ◌≢◌, ◌≤◌}
 use Rattle.mb_segment.specs.Vocabulary.{Claim, Entry, Half, HalfFits, Homes, Keeps, Member, Nothing, Reads}
 use Rattle.mb_segment.specs.Vocabulary.{Sat, Spot, Taken, Undrawn, View, Waiting, Waits, Writes, all_entries}
 use Rattle.mb_segment.specs.Vocabulary.{drawn, ended, ending, free, seeing_mark, sees_mark}
@@ -163,9 +163,10 @@ module _ {T : Type 0} where
                     { sent = m.sent; got = m.got; cut = m.cut; no_hub = m.no_hub; not_back = m.not_back };
                 hub_ = λ r. absurd (no_hub v.role role r);
                 back = λ r. absurd (no_spent v.role role r);
+                debt = λ no_. absurd (no_ role);
                 half = tt;
                 low = fit.low;
-                ripe = λ j e. let r = fit.ripe j e in (omega arith, mark_marks s k n v w at p half j r.1);
+                ripe = λ j e. let r = fit.ripe j e in (omega arith, mark_marks s k n v w at p half j r.1, r.2);
                 full = λ e. let f = fit.full e in omega arith;
                 cut_ = fit.cut_;
                 empty = fit.empty;
@@ -189,13 +190,14 @@ module _ {T : Type 0} where
 
 -- ---- a look at a mark
 module _ {T : Type 0} where
-  sees_at : (slots n : ℕ) (me : Sat T) (i p : ℕ) → i ≡ p + 3 → p < slots → (s : St T) (k : Keeps s)
+  sees_at : (slots n : ℕ) (me : Sat T) (i p : ℕ) → i ≡ p + 3 → p < slots → p ≤ me.0.sight.low → (s : St T)
+      (k : Keeps s)
       → length s.homes ≡ slots
       → get_elem? s.views n ≡ some me.0 → Dec (slice_index s.words i ≡ 0)
       → Goes s i n me (seeing_mark p (step slots i 0 0 none) me) (slice_index s.words i)
-  sees_at slots n me i p is room s k homes at (yes none_) =
+  sees_at slots n me i p is room low s k homes at (yes none_) =
       (me.0, keeps, tt, stays s k i n me.0 at me.1, ((λ ne. absurd (ne none_)), λ _. (refl, refl)))
-  sees_at slots n me i p is room s k homes at (no some_) =
+  sees_at slots n me i p is room low s k homes at (no some_) =
       let many = k.sized in
       let fit = k.fits n me.0 at in
       let ii : i ≡ suc (suc (suc p)) = omega arith in
@@ -207,15 +209,16 @@ module _ {T : Type 0} where
             (sighted k.history k.states k.cut k.hub k.roll n me.0 record me.0.sight { ripe = Some p } fit fit.low
             (λ j e. let q : p ≡ j = same_some p j e in (
               omega arith,
-              λ z. some_ (same_ ∙ (index_at k.states p 0
-                  (subst (λ (y : ℕ). get_elem? k.states y ≡ some 0) (sym q) z))),
+              (λ z. some_ (same_ ∙ (index_at k.states p 0
+                  (subst (λ (y : ℕ). get_elem? k.states y ≡ some 0) (sym q) z)))),
+              (let l = fit.low in omega arith),
             ))
             fit.full fit.cut_ fit.empty)
             (at_rest s k me.0 (sees_mark p me.0) refl)),
         ((λ _. (refl, refl)), λ e. absurd (some_ e)),
       )
 
-  pub sees_marks : (slots n : ℕ) (me : Sat T) (i p : ℕ) → i ≡ p + 3 → p < slots
+  pub sees_marks : (slots n : ℕ) (me : Sat T) (i p : ℕ) → i ≡ p + 3 → p < slots → p ≤ me.0.sight.low
       → Allows Keeps slots n me i (λ r. r) (seeing_mark p (step slots i 0 0 none) me)
-  sees_marks slots n me i p is room s k homes at small =
-      sees_at slots n me i p is room s k homes at (ℕ_discrete (slice_index s.words i) 0)
+  sees_marks slots n me i p is room low s k homes at small =
+      sees_at slots n me i p is room low s k homes at (ℕ_discrete (slice_index s.words i) 0)

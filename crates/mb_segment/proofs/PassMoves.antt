@@ -31,6 +31,7 @@ module _ {T : Type 0} where
     };
     hub_ = λ e. let m = hub_ e in record { here = m.0; ends = m.1; nothing = refl; idle = refl };
     back = λ e. (back e, refl, refl);
+    debt = λ _. refl;
     half = tt;
     low = omega arith;
     ripe = λ k e. absurd (no_some k e);
@@ -154,7 +155,7 @@ module _ {T : Type 0} where
             (λ there_. ⊎_elim
             (λ (t : (j ≡ n) × (w ≡ u)). subst (λ (y : ℕ × View T). Fits k.history k.states k.cut k.hub k.roll y.0
             y.1) (λ i. (sym t.0 i, t.1 i))
-            (refit k.history k.states k.cut k.hub k.roll n v w (refl, refl, refl, refl, refl, refl, refl)
+            (refit k.history k.states k.cut k.hub k.roll n v w (refl, refl, refl, refl, refl, refl, refl, λ _ e. e)
             (k.fits n v at)))
             (λ (t : (j ≢ n) × (get_elem? s.views j ≡ some u)). k.fits j u t.1)
             (at_set s.views n j w u there_))
@@ -241,6 +242,7 @@ module _ {T : Type 0} where
             idle = h.idle;
           };
           back = λ r. absurd (hub_is_not_spent v.role v_role r);
+          debt = f.debt;
           half = f.half;
           low = f.low;
           ripe = f.ripe;
@@ -264,6 +266,7 @@ module _ {T : Type 0} where
           };
           hub_ = λ r. absurd (ne_hub ((f.hub_ r).here ∙ sym ((k.fits n v at).hub_ v_role).here));
           back = λ r. let b = f.back r in (inr b.0, b.1, b.2);
+          debt = f.debt;
           half = f.half;
           low = f.low;
           ripe = f.ripe;

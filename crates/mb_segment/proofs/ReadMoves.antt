@@ -157,9 +157,10 @@ module _ {T : Type 0} where
                     { sent = m.sent; got = m.got; cut = m.cut; no_hub = m.no_hub; not_back = m.not_back };
                 hub_ = λ r. absurd (no_hub v.role role r);
                 back = λ r. absurd (no_spent v.role role r);
+                debt = λ no_. absurd (no_ role);
                 half = tt;
                 low = fit.low;
-                ripe = λ j e. let r = fit.ripe j e in (omega arith, read_marks s k n v w at p half j r.1);
+                ripe = λ j e. let r = fit.ripe j e in (omega arith, read_marks s k n v w at p half j r.1, r.2);
                 full = λ e. let f = fit.full e in omega arith;
                 cut_ = fit.cut_;
                 empty = fit.empty;

@@ -1,5 +1,5 @@
 -- How a step changes a view.
-use Rattle.std.specs.Prelude.{Bool, List, Some, [], false, max, suc, true, ℕ, ◌+◌, ◌++◌, ◌-◌, ◌<◌, ◌∷◌, ◌≡◌}
+use Rattle.std.specs.Prelude.{Bool, List, None, Option, Some, [], false, max, suc, true, ℕ, ◌+◌, ◌++◌, ◌-◌, ◌<◌, ◌∷◌, ◌≡◌}
 use Rattle.mb_segment.specs.Types.{Duty, Nothing, Reads, Spot, View, Writes}
 use Rattle.mb_segment.specs.History.{spot}
 use Rattle.mb_segment.specs.Passes.{blank, blind}
@@ -93,6 +93,14 @@ leaves_with_token d = record d { wakes = d.wakes + 1; leaving = d.leaving - 1 }
 abbrev pub sees_taken : {T : Type 0} → ℕ → View T → View T
 sees_taken r v = record v { sight = record v.sight { low = r } }
 
+-- how far it saw marks: one more than the position seen marked last, or 0
+abbrev pub mark_in : Option ℕ → ℕ
+mark_in None = 0
+mark_in (Some k) = suc k
+
+abbrev pub marked_to : {T : Type 0} → View T → ℕ
+marked_to v = mark_in v.sight.ripe
+
 abbrev pub sees_mark : {T : Type 0} → ℕ → View T → View T
 sees_mark k v = record v { sight = record v.sight { ripe = Some k } }
 
@@ -115,7 +123,7 @@ abbrev pub Below : {T : Type 0} → ℕ → List (Spot T) → Type 0
 Below n [] = Unit {0}
 Below n (s ∷ ss) = (s.at < n) × Below n ss
 
--- when it saw that, all was claimed that it had sent or seen marked
+-- when it saw that, all was claimed that it had sent, and the mark that it saw last
 abbrev pub SawAllTaken : {T : Type 0} → View T → Type 0
 SawAllTaken v = Below v.sight.empty v.account.sent
     × ((p : ℕ) → v.sight.ripe ≡ Some p → p < v.sight.empty)
@@ -123,6 +131,13 @@ SawAllTaken v = Below v.sight.empty v.account.sent
 -- it is told that no value can come any more
 abbrev pub told : {T : Type 0} → View T → View T
 told v = record v { over = true }
+
+-- what it was told rules out no claim, and no draw
+abbrev pub MayTake : {T : Type 0} → View T → Type 0
+MayTake v = v.over ≡ false
+
+abbrev pub MaySend : {T : Type 0} → View T → Type 0
+MaySend v = (v.sight.full ≡ false) × (v.sight.cut ≡ false) × (v.account.cut ≡ false) × (v.over ≡ false)
 
 -- ---- the hub
 abbrev pub issued : {T : Type 0} → View T → View T

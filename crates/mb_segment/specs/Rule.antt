@@ -8,7 +8,7 @@ use lib.ListN.{get_elem?}
 use Rattle.atomic_table.specs.Table.{State}
 use Rattle.mb_segment.specs.Types.{Issuer, Member, Nothing, Spent, View}
 use Rattle.mb_segment.specs.History.{History, cuts_by, drawn, got_by, has_cut, sent_by, taken}
-use Rattle.mb_segment.specs.Passes.{Distinct, In, Match, member, out}
+use Rattle.mb_segment.specs.Passes.{Distinct, In, Match, member, no_duty, out}
 use Rattle.mb_segment.specs.Heard.{Heard}
 use Rattle.mb_segment.specs.Sleeping.{Quiet, Shut, closing, free, listed, owed, sleeping, total}
 use Rattle.mb_segment.specs.Slots.{HalfFits, Taken, Undrawn, Waiting}
@@ -28,14 +28,16 @@ pub record IsHub {T : Type 0} (h : History T) (hub : ℕ) (roll : List ℕ) (n :
   pub nothing : v.half ≡ Nothing
   pub idle : v.account.sent ≡ []
 
--- what the view of number n says is true. `cut` is not 0 once the segment is cut
+-- what the view of number n says is true, and only a pass that is out owes anything. `cut` is not 0 once the segment is
+-- cut
 pub record Fits {T : Type 0} (h : History T) (states : List ℕ) (cut hub : ℕ) (roll : List ℕ) (n : ℕ) (v : View T) : Type 0 where
   pub member : v.role ≡ Member → IsMember h hub roll n v
   pub hub_ : v.role ≡ Issuer → IsHub h hub roll n v
   pub back : v.role ≡ Spent → In n roll × (v.half ≡ Nothing) × (v.account.sent ≡ [])
+  pub debt : (v.role ≡ Member → ⊥) → v.duty ≡ no_duty
   pub half : HalfFits h states n v.half
   pub low : v.sight.low ≤ taken h
-  pub ripe : (k : ℕ) → v.sight.ripe ≡ Some k → (k < length states) × (get_elem? states k ≢ some 0)
+  pub ripe : (k : ℕ) → v.sight.ripe ≡ Some k → (k < length states) × (get_elem? states k ≢ some 0) × (k ≤ taken h)
   pub full : v.sight.full ≡ true → drawn h ≡ length states
   pub cut_ : v.sight.cut ≡ true → 0 < cut
   pub empty : v.sight.empty ≤ taken h

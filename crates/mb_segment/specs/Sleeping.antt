@@ -14,14 +14,14 @@ listed v = v.duty.fresh + v.duty.asleep + v.duty.leaving
 abbrev pub sleeping : {T : Type 0} → View T → ℕ
 sleeping v = v.duty.asleep
 
--- looks and wakes owed
+-- debts: wakes, looks, also of who has just entered, and what closers owe
 abbrev pub owed : {T : Type 0} → View T → ℕ
 owed v = v.duty.wakes + v.duty.looks + v.duty.fresh + v.duty.closing
 
 abbrev pub closing : {T : Type 0} → View T → ℕ
 closing v = v.duty.closing
 
--- each that sleeps has a token; or no more values wait than there are tokens given, and looks and wakes owed
+-- each that sleeps has a token; or no more values wait than there are tokens given and debts owed
 abbrev pub Quiet : ℕ → ℕ → ℕ → ℕ → Type 0
 Quiet waiting tokens asleep owes = (asleep ≤ tokens) ⊎ (waiting ≤ tokens + owes)
 

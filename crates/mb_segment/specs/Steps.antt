@@ -1,8 +1,9 @@
 -- What each step tells its caller. `r` is the number found, `m` the seat before, `n` the seat after.
-use Rattle.std.specs.Prelude.{None, Option, Some, ℕ, ◌%◌, ◌<◌, ◌∷◌, ◌≡◌, ◌≢◌, ◌≤◌}
+use Rattle.std.specs.Prelude.{None, Option, Some, ℕ, ◌%◌, ◌+◌, ◌<◌, ◌∷◌, ◌≡◌, ◌≢◌, ◌≤◌}
 use Rattle.atomic_table.specs.Table.{Me, Step, rest}
 use Rattle.mb_segment.specs.Types.{Duty, View}
-use Rattle.mb_segment.specs.Moves.{SawAllTaken, drew, ended, sees_cut, sees_empty, sees_full, sees_mark, told, took, with_duty}
+use Rattle.mb_segment.specs.Moves.{MaySend, MayTake, SawAllTaken, drew, ended, marked_to, sees_cut, sees_empty, sees_full, sees_mark}
+use Rattle.mb_segment.specs.Moves.{sees_taken, told, took, with_duty}
 
 abbrev pub Sat : Type 0 → Type 0
 Sat T = Me (Option T) (View T)
@@ -19,20 +20,21 @@ always f st m r n = becomes m n (f r m.0)
 abbrev pub exchanging : {T : Type 0} → (View T → View T) → Step (Option T) → Sat T → ℕ → Sat T → Type 0
 exchanging f st m r n = (r ≡ st.first → becomes m n (f m.0)) × (r ≢ st.first → becomes m n m.0)
 
--- the exchange that draws a position takes its slot, which is empty
+-- the exchange that draws a position takes its slot, which is empty. The pass was told nothing that rules a draw out
 abbrev pub drawing : {T : Type 0} → (Duty → Duty) → T → Step (Option T) → Sat T → ℕ → Sat T → Type 0
 drawing f x st m r n =
-    (r ≡ st.first → (n.0 ≡ with_duty f (drew st.first x m.0)) × (n.1 ≡ (st.first, None) ∷ m.1))
+    (r ≡ st.first → (n.0 ≡ with_duty f (drew st.first x m.0)) × (n.1 ≡ (st.first, None) ∷ m.1) × MaySend m.0)
     × (r ≢ st.first → becomes m n m.0)
 
 -- the same for a value that the proof picked
 abbrev pub drawing_picked : {T : Type 0} → (Duty → Duty) → Option T → Step (Option T) → Sat T → ℕ → Sat T → Type 0
 drawing_picked {T} f picked st m r n = (x : T) → picked ≡ Some x → drawing f x st m r n
 
--- the exchange that claims a position takes its slot, which has the value
+-- the exchange that claims a position takes its slot, which has the value. The pass was not told that none can come
 abbrev pub claiming : {T : Type 0} → (Duty → Duty) → Step (Option T) → Sat T → ℕ → Sat T → Type 0
 claiming {T} f st m r n =
-    (r ≡ st.first → (x : T) × (n.0 ≡ with_duty f (took st.first x m.0)) × (n.1 ≡ (st.first, Some x) ∷ m.1))
+    (r ≡ st.first
+    → (x : T) × (n.0 ≡ with_duty f (took st.first x m.0)) × (n.1 ≡ (st.first, Some x) ∷ m.1) × MayTake m.0)
     × (r ≢ st.first → becomes m n m.0)
 
 -- a store that gives the slot back
@@ -50,6 +52,10 @@ asking st m r n =
 abbrev pub seeing_cut : {T : Type 0} → Step (Option T) → Sat T → ℕ → Sat T → Type 0
 seeing_cut st m r n =
     (9223372036854775808 ≤ r → becomes m n (sees_cut m.0)) × (r < 9223372036854775808 → becomes m n m.0)
+
+-- a load of the number claimed, which is not below the position seen marked last
+abbrev pub seeing_taken : {T : Type 0} → Step (Option T) → Sat T → ℕ → Sat T → Type 0
+seeing_taken st m r n = becomes m n (sees_taken r m.0) × (marked_to m.0 ≤ r + 1)
 
 -- a load of the state of position k: not 0 once it is marked
 abbrev pub seeing_mark : {T : Type 0} → ℕ → Step (Option T) → Sat T → ℕ → Sat T → Type 0

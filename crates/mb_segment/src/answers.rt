@@ -9,18 +9,18 @@ pub enum Draw {
     Full,
     /// The segment was cut.
     Closed,
-    /// Another pass drew first. Draw again.
+    /// Another pass drew or cut first. Draw again.
     Again,
 }
 
 /// What a pass that owes a wake has to do.
 #[derive(Clone, Copy, PartialEq, Eq, Debug, Drop)]
 pub enum Wake {
-    /// Nobody waits without a token. Nothing is owed any more.
+    /// Nobody waits without a token. One wake less is owed, or what one closer owes.
     Nobody,
     /// A token was given: wake one thread.
     One,
-    /// Another pass changed the list. Call again.
+    /// Another pass changed the list, or 2^32 - 1 tokens are out. Call again.
     Again,
 }
 
@@ -33,7 +33,7 @@ pub enum Look {
     Yield,
     /// At this moment each position drawn was claimed.
     Empty,
-    /// Each position drawn is claimed, and no more will be drawn.
+    /// The segment is done: each position drawn is claimed, and no more will be drawn.
     Over,
 }
 
@@ -65,6 +65,6 @@ pub enum Cut {
     Done,
     /// It was cut before.
     Was,
-    /// Another pass drew a position meanwhile. Call again.
+    /// Another pass drew or cut meanwhile. Call again.
     Again,
 }

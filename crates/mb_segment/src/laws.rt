@@ -2,9 +2,9 @@
 ghost use Rattle.std.specs.Prelude.{List, Some, [], length, true, ℕ, ◌+◌, ◌<◌, ◌∷◌, ◌≡◌, ◌≤◌, ◌⊎◌};
 ghost use mathlib.Core.Option.{some};
 ghost use lib.ListN.{get_elem?};
-ghost use Rattle.mb_segment.specs.{Claim, Entry, Has, IsCut, IsOfPass, IsOver, IsPassOf, IsViewOf, Keeps, Rises};
-ghost use Rattle.mb_segment.specs.{SawAllTaken, SegmentState, View, all_entries, claimed_in, closing, drawn_in};
-ghost use Rattle.mb_segment.specs.{got_by, new_hub, owed, sent_by, sleeping, total};
+ghost use Rattle.mb_segment.specs.{Claim, Entry, Has, IsCut, IsOfPass, IsOver, IsPassOf, IsViewOf, Issuer, Keeps, Match, Member};
+ghost use Rattle.mb_segment.specs.{Rises, SawAllTaken, SegmentState, View, all_entries, claimed_in, closing, drawn_in};
+ghost use Rattle.mb_segment.specs.{got_by, listed, new_hub, owed, sent_by, sleeping, total};
 
 /// All positions drawn stand in one order, and the first of them are those claimed. What a pass sent and what it
 /// received stand there in its own order. What is drawn or claimed next stands after all that was before.
@@ -20,7 +20,8 @@ pub fn one_order<T>()
 {}
 
 /// A position has one drawer and one taker, and its taker got what its drawer gave. Each position below the number drawn
-/// was drawn by a pass. Each below the number claimed was taken by one, so nobody overtakes.
+/// was drawn by a pass. Each below the number claimed was taken by one, so nobody overtakes. What passes that came back
+/// had done is in the same history.
 pub fn one_taker<T>()
     ensures taker { (s : SegmentState T) (k : Keeps s) (i j : ℕ) (u v : View T) (p : ℕ) (x y : T)
         → IsPassOf s i u → IsPassOf s j v
@@ -37,11 +38,13 @@ pub fn one_taker<T>()
     ensures drawn { (s : SegmentState T) (k : Keeps s) (p : ℕ) → p < drawn_in s
         → (e : Entry T) × (get_elem? (all_entries k.history) p ≡ some e)
         × IsOfPass s e.by (λ a. Has p e.value a.sent) }
+    ensures back { (s : SegmentState T) (k : Keeps s) (n : ℕ) (v : View T) → IsViewOf s n v
+        → v.role ≡ Issuer → Match k.history k.roll v.ends }
 {}
 
 /// Where a receiver loaded the number claimed, and then finds no more drawn, each position drawn is claimed at that
-/// load. What it had sent or seen marked then was claimed, and stays so. Where a pass was told that no value can come any
-/// more, none waits and no more will be drawn; where it was told that the segment is full or cut, it is.
+/// load. What it had sent or seen marked then was claimed, and stays so. Where a pass was told that the segment is done,
+/// none waits and no more will be drawn; where it was told that the segment is full or cut, it is.
 pub fn over_is_true<T>()
     ensures empty { (s : SegmentState T) (k : Keeps s) (n : ℕ) (v : View T) → IsViewOf s n v
         → drawn_in s ≤ v.sight.low → (drawn_in s ≡ claimed_in s) × (k.history.rest ≡ []) }
@@ -66,8 +69,9 @@ pub fn one_cutter<T>()
         → (drawn_in s ≡ 0) × (IsCut s → ⊥) }
 {}
 
-/// Between any two steps: if a receiver sleeps without a token, no more values wait than there are tokens given, and
-/// looks and wakes owed. And if no more will be drawn, a closer still owes tokens.
+/// Between any two steps: if a receiver sleeps without a token, no more values wait than there are tokens given and debts
+/// owed: looks, wakes, and what closers owe. And if no more will be drawn, a closer still owes tokens. Whoever owes or is
+/// in the list is a pass that is out.
 pub fn no_wake_up_is_lost<T>()
     ensures owed { (s : SegmentState T) (k : Keeps s) → 0 < total sleeping s.views
         → claimed_in s < drawn_in s → 0 < k.tokens + total owed s.views }
@@ -75,4 +79,6 @@ pub fn no_wake_up_is_lost<T>()
         → drawn_in s ≤ claimed_in s + (k.tokens + total owed s.views) }
     ensures over { (s : SegmentState T) (k : Keeps s) → k.tokens < total sleeping s.views
         → IsOver s → 0 < total closing s.views }
+    ensures debtor { (s : SegmentState T) (k : Keeps s) (n : ℕ) (v : View T) → IsViewOf s n v
+        → 0 < owed v + listed v → v.role ≡ Member }
 {}

@@ -1,6 +1,6 @@
 //! Each atomic step on the list of those that wait, and the sleep itself.
 ghost use Rattle.std.specs.Prelude.{ℕ, ◌%◌, ◌+◌, ◌<◌, ◌≡◌, ◌≢◌, ◌≤◌};
-ghost use Rattle.mb_segment.specs.{Becomes, IsStill, enters, gives_up, goes_unseen, hands_on, has_closed, has_woken};
+ghost use Rattle.mb_segment.specs.{Becomes, IsStill, Member, enters, gives_up, goes_unseen, hands_on, has_closed, has_woken};
 ghost use Rattle.mb_segment.specs.{leaves, leaves_with_token, same, view_in, wakes_up, with_duty};
 
 use crate::effects::{
@@ -111,6 +111,7 @@ impl<T: Drop, A: Allocator + Drop> Segment<T, A> {
     /// Enters the list, if it is still as it was seen.
     pub(crate) fn enter_from(&self, pass: &mut Pass<T>, seen: u64, new: u64) -> u64
         requires segment { pass.old.seat.table_id ≡ self.now.table.shared.table_id }
+        requires member { (view_in pass.old).role ≡ Member }
         requires new { new ≡ seen + 4294967296 }
         ensures pass { IsStill pass.old pass.new }
         ensures entered { result ≡ seen

@@ -1,7 +1,7 @@
 //! The calls of receivers that never wait.
-ghost use Rattle.std.specs.Prelude.{Some, [], false, true, ◌<◌, ◌∷◌, ◌≡◌};
-ghost use Rattle.mb_segment.specs.{Becomes, IsStill, Member, Nothing, OfLeave, OfLook, OfRest, Reads, SawAllTaken, bare, done};
-ghost use Rattle.mb_segment.specs.{ended, enters, falls_asleep, held_by, leaves, leaves_with_token, looked, spot, told, took};
+ghost use Rattle.std.specs.Prelude.{Some, [], false, true, ◌<◌, ◌∷◌, ◌≡◌, ◌≤◌};
+ghost use Rattle.mb_segment.specs.{Becomes, IsStill, MayTake, Member, Nothing, OfLeave, OfLook, OfRest, Reads, SawAllTaken, bare, done};
+ghost use Rattle.mb_segment.specs.{ended, enters, falls_asleep, held_by, leaves, leaves_with_token, looked, marked_to, spot, told, took};
 ghost use Rattle.mb_segment.specs.{view_in, wakes_up, with_duty};
 
 use crate::answers::{Leave, Look, Rest};
@@ -14,17 +14,19 @@ use std::marker::Brand;
 
 impl<T: Drop, A: Allocator + Drop> Segment<T, A> {
     /// Looks for the first value that waits. A look that finds nothing pays one look that is owed. At that moment all was
-    /// claimed that the pass had sent or seen marked. Three accesses at most.
+    /// claimed that the pass had sent or seen marked, in this call or before. Three accesses at most.
     pub fn look(&self, pass: &mut Pass<T>) -> Look
         requires segment { pass.old.seat.table_id ≡ self.now.table.shared.table_id }
         ensures pass { IsStill pass.old pass.new }
         ensures held { held_by pass.new ≡ held_by pass.old }
+        ensures mark { marked_to (view_in pass.old) ≤ marked_to (view_in pass.new) }
         ensures answer { OfLook result
             (λ at. (at < self.now.size) × ((view_in pass.new).sight.ripe ≡ Some at)
             × (bare (view_in pass.new) ≡ bare (view_in pass.old)))
             (bare (view_in pass.new) ≡ bare (view_in pass.old))
             ((bare (view_in pass.new) ≡ with_duty looked (bare (view_in pass.old)))
-            × SawAllTaken (view_in pass.new))
+            × SawAllTaken (view_in pass.new)
+            × ((view_in pass.new).sight.ripe ≡ (view_in pass.old).sight.ripe))
             (bare (view_in pass.new) ≡ told (with_duty looked (bare (view_in pass.old)))) }
     {
         let first = self.load_taken(pass);
@@ -48,12 +50,14 @@ impl<T: Drop, A: Allocator + Drop> Segment<T, A> {
         requires fresh { 0 < (view_in pass.old).duty.fresh }
         ensures pass { IsStill pass.old pass.new }
         ensures held { held_by pass.new ≡ held_by pass.old }
+        ensures mark { marked_to (view_in pass.old) ≤ marked_to (view_in pass.new) }
         ensures answer { OfLook result
             (λ at. (at < self.now.size) × ((view_in pass.new).sight.ripe ≡ Some at)
             × (bare (view_in pass.new) ≡ bare (view_in pass.old)))
             (bare (view_in pass.new) ≡ bare (view_in pass.old))
             ((bare (view_in pass.new) ≡ with_duty falls_asleep (bare (view_in pass.old)))
-            × SawAllTaken (view_in pass.new))
+            × SawAllTaken (view_in pass.new)
+            × ((view_in pass.new).sight.ripe ≡ (view_in pass.old).sight.ripe))
             (bare (view_in pass.new) ≡ told (with_duty done (bare (view_in pass.old)))) }
     {
         let first = self.load_taken(pass);
@@ -83,6 +87,7 @@ impl<T: Drop, A: Allocator + Drop> Segment<T, A> {
             × (view_in pass.new ≡ with_duty looked (took at x (view_in pass.old)))
             × (held_by pass.new ≡ (at, Some x) ∷ []) }
         ensures missed { result ≡ false → Becomes pass.old pass.new (view_in pass.old) }
+        ensures may { result ≡ true → MayTake (view_in pass.old) }
     {
         self.claim_from(pass, at, at + 1) == at
     }
@@ -100,6 +105,7 @@ impl<T: Drop, A: Allocator + Drop> Segment<T, A> {
             × (view_in pass.new ≡ with_duty done (took at x (view_in pass.old)))
             × (held_by pass.new ≡ (at, Some x) ∷ []) }
         ensures missed { result ≡ false → Becomes pass.old pass.new (view_in pass.old) }
+        ensures may { result ≡ true → MayTake (view_in pass.old) }
     {
         self.claim_listed_from(pass, at, at + 1) == at
     }
@@ -126,9 +132,11 @@ impl<T: Drop, A: Allocator + Drop> Segment<T, A> {
         }
     }
 
-    /// Enters the list of those that wait. The pass then owes a look. False if another pass changed the list. One access.
+    /// Enters the list of those that wait. The pass then owes a look. False if another pass changed the list, or 2^32 - 1
+    /// wait. One access at most.
     pub fn enter(&self, pass: &mut Pass<T>) -> bool
         requires segment { pass.old.seat.table_id ≡ self.now.table.shared.table_id }
+        requires member { (view_in pass.old).role ≡ Member }
         ensures pass { IsStill pass.old pass.new }
         ensures entered { result ≡ true
             → Becomes pass.old pass.new (with_duty enters (view_in pass.old)) }

@@ -134,10 +134,9 @@ impl<T> Play<Option<T>, View<T>> for SeesCut {
 pub struct SeesTaken;
 
 impl<T> Play<Option<T>, View<T>> for SeesTaken {
-    ghost use Rattle.mb_segment.specs.Moves.{sees_taken};
-    ghost use Rattle.mb_segment.specs.Steps.{always};
+    ghost use Rattle.mb_segment.specs.Steps.{seeing_taken};
 
-    ghost then = { always sees_taken };
+    ghost then = { seeing_taken };
 }
 
 /// The load of a position's state.

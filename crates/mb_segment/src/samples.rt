@@ -3,7 +3,8 @@
 ghost use Rattle.std.specs.Prelude.{List, [], ℕ, ◌∷◌, ◌≡◌};
 ghost use Rattle.mb_segment.specs.{IsCalm, IsCut, IsOver, IsWhole, Keeps, Rises, SawAllTaken, drawn_in, got_by, owes_wake};
 ghost use Rattle.mb_segment.specs.{sent_by, with_duty};
-ghost use Rattle.mb_segment.specs.SegmentSamples.{cutter, falling, foreknown, history, overslept, receiver, saw, sender, unused, view};
+ghost use Rattle.mb_segment.specs.SegmentSamples.{cutter, falling, foreknown, forgotten, history, overslept, receiver, saw};
+ghost use Rattle.mb_segment.specs.SegmentSamples.{sender, unpaid, unused, view};
 
 /// The end. Two accounts and what is left of one history are admitted. Refused: a value that two received, two that cut,
 /// and a send to a position that its pass knew to be drawn.
@@ -14,12 +15,15 @@ pub fn sample_ends()
     ensures unheeded { (left : List ℕ) → IsWhole (foreknown ∷ receiver ∷ []) left → ⊥ }
 {}
 
-/// The rule. A new segment is admitted. Refused: one that is cut before a pass is issued, and one in which a receiver
-/// sleeps beside a value and nobody owes anything.
+/// The rule. A new segment is admitted. Refused: one that is cut before a pass is issued, one whose hub owes a wake, and
+/// two in which a receiver sleeps and nobody owes anything. In one of these a value waits, in the other no more will be
+/// drawn.
 pub fn sample_states()
     ensures new { Keeps (unused 0) }
     ensures cut { Keeps (unused 9223372036854775808) → ⊥ }
     ensures overslept { Keeps overslept → ⊥ }
+    ensures forgotten { Keeps forgotten → ⊥ }
+    ensures unpaid { Keeps unpaid → ⊥ }
     ensures full { IsOver (unused 1) × (IsCut (unused 1) → ⊥) }
     ensures open { (IsOver (unused 0) → ⊥) × (drawn_in (unused 9223372036854775809) ≡ 1) }
 {}

@@ -1,7 +1,7 @@
 //! The calls of senders that never wait.
 ghost use Rattle.std.specs.Prelude.{None, [], ◌+◌, ◌<◌, ◌∷◌, ◌≡◌};
-ghost use Rattle.mb_segment.specs.{Becomes, IsFree, IsStill, Member, OfCut, OfDraw, OfWake, OfWakeAll, Writes, did_cut, drew};
-ghost use Rattle.mb_segment.specs.{ended, has_closed, has_woken, held_by, owes_all, owes_wake, sees_cut, sees_full, spot};
+ghost use Rattle.mb_segment.specs.{Becomes, IsFree, IsStill, MaySend, Member, OfCut, OfDraw, OfWake, OfWakeAll, Writes, did_cut};
+ghost use Rattle.mb_segment.specs.{drew, ended, has_closed, has_woken, held_by, owes_all, owes_wake, sees_cut, sees_full, spot};
 ghost use Rattle.mb_segment.specs.{view_in, with_duty};
 
 use crate::answers::{Cut, Draw, Wake};
@@ -24,7 +24,8 @@ impl<T: Drop, A: Allocator + Drop> Segment<T, A> {
             × (at + 1 < self.now.size
             → view_in pass.new ≡ with_duty owes_wake (drew at value.now (view_in pass.old)))
             × (at + 1 ≡ self.now.size
-            → view_in pass.new ≡ with_duty owes_all (drew at value.now (view_in pass.old))))
+            → view_in pass.new ≡ with_duty owes_all (drew at value.now (view_in pass.old)))
+            × MaySend (view_in pass.old))
             (Becomes pass.old pass.new (sees_full (view_in pass.old)))
             (Becomes pass.old pass.new (sees_cut (view_in pass.old)))
             (Becomes pass.old pass.new (view_in pass.old)) }

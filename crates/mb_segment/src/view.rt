@@ -39,7 +39,7 @@ pub enum Half<T> {
 
 /// What a pass owes, and how often it stands in the list of those that wait.
 pub struct Duty {
-    /// Wakes that it owes, one for each position drawn, or for each token that it could not use.
+    /// Wakes that it owes: for positions drawn, for looks left out, and for tokens taken along.
     pub wakes: u64,
     /// Looks that it owes, one for each token taken.
     pub looks: u64,
@@ -57,7 +57,7 @@ pub struct Duty {
 pub struct Sight {
     /// As many positions as this are claimed.
     pub low: u64,
-    /// This position was marked.
+    /// This position was marked. It is the one seen marked last.
     pub ripe: Option<u64>,
     /// All positions are drawn.
     pub full: bool,
@@ -67,7 +67,7 @@ pub struct Sight {
     pub empty: u64,
 }
 
-/// What a pass has learned by its own calls: as many positions as this are drawn, and claimed.
+/// What a pass has learned by its own sends and receives: as many positions as this are drawn, and claimed.
 pub struct Known {
     pub drawn: u64,
     pub taken: u64,
@@ -80,7 +80,7 @@ pub struct View<T> {
     pub half: Half<T>,
     pub duty: Duty,
     pub sight: Sight,
-    /// It was told that no value can come any more.
+    /// It was told that the segment is done: no value can come any more.
     pub over: bool,
     /// Of the hub: how many passes are out, and what those that came back had done, the latest first.
     pub out: u64,

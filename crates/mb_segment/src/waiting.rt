@@ -1,8 +1,8 @@
 //! The calls that wait: one send, and one receive that sleeps until a value comes.
-ghost use Rattle.std.specs.Prelude.{IfErr, IfNone, IfOk, IfSome, [], false, true, ℕ, ◌+◌, ◌++◌, ◌<◌, ◌∷◌, ◌≡◌, ◌⊎◌};
-ghost use Rattle.mb_segment.specs.{Becomes, IsCalm, IsFree, IsStill, Member, Nothing, OfFound, OfNotSent, OfReceived};
+ghost use Rattle.std.specs.Prelude.{IfErr, IfNone, IfOk, IfSome, [], false, true, ℕ, ◌+◌, ◌++◌, ◌<◌, ◌∷◌, ◌≡◌, ◌≤◌, ◌⊎◌};
+ghost use Rattle.mb_segment.specs.{Becomes, IsCalm, IsFree, IsStill, MaySend, MayTake, Member, Nothing, OfFound, OfNotSent, OfReceived};
 ghost use Rattle.mb_segment.specs.{SawAllTaken, bare, calm, did_cut, done, ended, enters, falls_asleep, gives_up, got_at, has_closed, has_woken, held_by};
-ghost use Rattle.mb_segment.specs.{leaves, looked, sees_cut, sent_at, told, took, value_of, view_in, wakes_up, with_duty};
+ghost use Rattle.mb_segment.specs.{leaves, looked, marked_to, sees_cut, sent_at, told, took, value_of, view_in, wakes_up, with_duty};
 
 use crate::answers::{Cut, Draw, Leave, Look, Rest, Wake};
 use crate::segment::{Pass, Segment};
@@ -24,9 +24,10 @@ pub enum NotSent<T> {
 #[derive(Debug, Drop)]
 pub enum Received<T> {
     Value(T),
-    /// Each position drawn is claimed, and no more will be drawn.
+    /// The segment is done: each position drawn is claimed, and no more will be drawn.
     Over,
-    /// The deadline came first. At a moment of this call all was claimed that the pass had sent or seen marked.
+    /// The deadline came first, or there is no clock. At a moment of this call all was claimed that the pass had sent or
+    /// seen marked.
     TimedOut,
 }
 
@@ -76,13 +77,15 @@ impl<T: Drop, A: Allocator + Drop> Segment<T, A> {
         unreachable!()
     }
 
-    /// Sends a value, and wakes a receiver for it. The error gives the value back.
+    /// Sends a value, and wakes a receiver for it. The error gives the value back. A pass that was told that the segment
+    /// is full, cut or done sends no more.
     pub fn send<R: Wait>(&self, rt: &R, pass: &mut Pass<T>, value: T) -> Result<(), NotSent<T>>
         requires segment { pass.old.seat.table_id ≡ self.now.table.shared.table_id }
         requires free { IsFree pass.old }
         ensures pass { IsStill pass.old pass.new }
         ensures sent { IfOk result (λ _. (at : ℕ)
-            × (bare (view_in pass.new) ≡ sent_at at value (calm (view_in pass.old)))) }
+            × (bare (view_in pass.new) ≡ sent_at at value (calm (view_in pass.old)))
+            × MaySend (view_in pass.old)) }
         ensures refused { IfErr result (λ e. (value_of e ≡ value)
             × (bare (view_in pass.new) ≡ calm (view_in pass.old))
             × OfNotSent e ((view_in pass.new).sight.full ≡ true)
@@ -136,9 +139,11 @@ impl<T: Drop, A: Allocator + Drop> Segment<T, A> {
         requires idle { ((view_in pass.old).half ≡ Nothing) × (held_by pass.old ≡ []) }
         ensures pass { IsStill pass.old pass.new }
         ensures held { held_by pass.new ≡ [] }
+        ensures mark { marked_to (view_in pass.old) ≤ marked_to (view_in pass.new) }
         ensures answer { OfFound result
             (λ x. (at : ℕ)
-            × (bare (view_in pass.new) ≡ got_at at x (with_duty looked (bare (view_in pass.old)))))
+            × (bare (view_in pass.new) ≡ got_at at x (with_duty looked (bare (view_in pass.old))))
+            × MayTake (view_in pass.old))
             ((bare (view_in pass.new) ≡ with_duty looked (bare (view_in pass.old)))
             × SawAllTaken (view_in pass.new))
             (bare (view_in pass.new) ≡ told (with_duty looked (bare (view_in pass.old)))) }
@@ -166,9 +171,11 @@ impl<T: Drop, A: Allocator + Drop> Segment<T, A> {
         requires idle { ((view_in pass.old).half ≡ Nothing) × (held_by pass.old ≡ []) }
         ensures pass { IsStill pass.old pass.new }
         ensures held { held_by pass.new ≡ [] }
+        ensures mark { marked_to (view_in pass.old) ≤ marked_to (view_in pass.new) }
         ensures answer { OfFound result
             (λ x. (at : ℕ)
-            × (bare (view_in pass.new) ≡ got_at at x (with_duty done (bare (view_in pass.old)))))
+            × (bare (view_in pass.new) ≡ got_at at x (with_duty done (bare (view_in pass.old))))
+            × MayTake (view_in pass.old))
             ((bare (view_in pass.new) ≡ with_duty falls_asleep (bare (view_in pass.old)))
             × SawAllTaken (view_in pass.new))
             (bare (view_in pass.new) ≡ told (with_duty done (bare (view_in pass.old)))) }
@@ -190,6 +197,7 @@ impl<T: Drop, A: Allocator + Drop> Segment<T, A> {
 
     fn enter_list<R: Wait>(&self, rt: &R, pass: &mut Pass<T>)
         requires segment { pass.old.seat.table_id ≡ self.now.table.shared.table_id }
+        requires member { (view_in pass.old).role ≡ Member }
         ensures pass { IsStill pass.old pass.new }
         ensures entered { Becomes pass.old pass.new (with_duty enters (view_in pass.old)) }
     {
@@ -265,13 +273,15 @@ impl<T: Drop, A: Allocator + Drop> Segment<T, A> {
         unreachable!()
     }
 
-    /// Receives the first value, and sleeps until there is one. `None` only if none can come any more.
+    /// Receives the first value, and sleeps until there is one. `None` only if none can come any more, and no
+    /// later call gives a value then.
     pub fn receive<R: Wait>(&self, rt: &R, pass: &mut Pass<T>) -> Option<T>
         requires segment { pass.old.seat.table_id ≡ self.now.table.shared.table_id }
         requires free { IsFree pass.old }
         ensures pass { IsStill pass.old pass.new }
         ensures received { IfSome result (λ x. (at : ℕ)
-            × (bare (view_in pass.new) ≡ got_at at x (calm (view_in pass.old)))) }
+            × (bare (view_in pass.new) ≡ got_at at x (calm (view_in pass.old)))
+            × MayTake (view_in pass.old)) }
         ensures over { IfNone result
             (bare (view_in pass.new) ≡ told (calm (view_in pass.old))) }
         ensures free { IsFree pass.new }
@@ -315,9 +325,11 @@ impl<T: Drop, A: Allocator + Drop> Segment<T, A> {
         requires free { IsFree pass.old }
         ensures pass { IsStill pass.old pass.new }
         ensures answer { OfReceived result
-            (λ x. (at : ℕ) × (bare (view_in pass.new) ≡ got_at at x (calm (view_in pass.old))))
+            (λ x. (at : ℕ) × (bare (view_in pass.new) ≡ got_at at x (calm (view_in pass.old)))
+            × MayTake (view_in pass.old))
             (bare (view_in pass.new) ≡ told (calm (view_in pass.old)))
             ((bare (view_in pass.new) ≡ calm (view_in pass.old)) × SawAllTaken (view_in pass.new)) }
+        ensures mark { marked_to (view_in pass.old) ≤ marked_to (view_in pass.new) }
         ensures free { IsFree pass.new }
     {
         for _ in rt.forever() {

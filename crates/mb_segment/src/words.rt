@@ -1,7 +1,7 @@
 //! Each atomic step on the numbers drawn and claimed, and on the state of a position.
 ghost use Rattle.std.specs.Prelude.{List, None, Option, Some, [], ℕ, ◌%◌, ◌+◌, ◌<◌, ◌∷◌, ◌≡◌, ◌≢◌, ◌≤◌};
-ghost use Rattle.mb_segment.specs.{Becomes, IsStill, Member, Nothing, SawAllTaken, Spot, did_cut, done, drew, falls_asleep};
-ghost use Rattle.mb_segment.specs.{held_by, looked, owes_all, owes_wake, sees_cut, sees_empty, sees_full, sees_mark};
+ghost use Rattle.mb_segment.specs.{Becomes, IsStill, MaySend, MayTake, Member, Nothing, SawAllTaken, Spot, did_cut, done, drew};
+ghost use Rattle.mb_segment.specs.{falls_asleep, held_by, looked, marked_to, owes_all, owes_wake, sees_cut, sees_empty, sees_full, sees_mark};
 ghost use Rattle.mb_segment.specs.{sees_taken, told, took, view_in, with_duty};
 
 use crate::effects::{Done, FallsAsleep, Looked, OwesAll, OwesWake};
@@ -60,7 +60,7 @@ impl<T: Drop, A: Allocator + Drop> Segment<T, A> {
         ensures pass { IsStill pass.old pass.new }
         ensures drawn { result ≡ at
             → (view_in pass.new ≡ with_duty owes_wake (drew at value.now (view_in pass.old)))
-            × (held_by pass.new ≡ (at, None) ∷ held_by pass.old) }
+            × (held_by pass.new ≡ (at, None) ∷ held_by pass.old) × MaySend (view_in pass.old) }
         ensures missed { result ≢ at → Becomes pass.old pass.new (view_in pass.old) }
     {
         let _ = value;
@@ -86,7 +86,7 @@ impl<T: Drop, A: Allocator + Drop> Segment<T, A> {
         ensures pass { IsStill pass.old pass.new }
         ensures drawn { result ≡ at
             → (view_in pass.new ≡ with_duty owes_all (drew at value.now (view_in pass.old)))
-            × (held_by pass.new ≡ (at, None) ∷ held_by pass.old) }
+            × (held_by pass.new ≡ (at, None) ∷ held_by pass.old) × MaySend (view_in pass.old) }
         ensures missed { result ≢ at → Becomes pass.old pass.new (view_in pass.old) }
     {
         let _ = value;
@@ -129,15 +129,17 @@ impl<T: Drop, A: Allocator + Drop> Segment<T, A> {
         requires segment { pass.old.seat.table_id ≡ self.now.table.shared.table_id }
         ensures pass { IsStill pass.old pass.new }
         ensures low { Becomes pass.old pass.new (sees_taken result (view_in pass.old)) }
+        ensures mark { marked_to (view_in pass.old) ≤ result + 1 }
     {
         self.table.shared.load::<SeesTaken>(&mut pass.seat, TAKEN)
     }
 
-    /// Looks whether the position is marked.
+    /// Looks whether the position is marked. It is not above the number claimed that the pass loaded.
     pub(crate) fn load_mark<P: Position>(&self, pass: &mut Pass<T>, at: u64) -> u64
         requires segment { pass.old.seat.table_id ≡ self.now.table.shared.table_id }
         requires picked { P.position ≡ at }
         requires within { at < self.now.size }
+        requires low { at ≤ (view_in pass.old).sight.low }
         ensures pass { IsStill pass.old pass.new }
         ensures marked { result ≢ 0 → Becomes pass.old pass.new (sees_mark at (view_in pass.old)) }
         ensures unmarked { result ≡ 0 → Becomes pass.old pass.new (view_in pass.old) }
@@ -197,7 +199,7 @@ impl<T: Drop, A: Allocator + Drop> Segment<T, A> {
         ensures pass { IsStill pass.old pass.new }
         ensures claimed { result ≡ at → (x : T)
             × (view_in pass.new ≡ with_duty looked (took at x (view_in pass.old)))
-            × (held_by pass.new ≡ (at, Some x) ∷ held_by pass.old) }
+            × (held_by pass.new ≡ (at, Some x) ∷ held_by pass.old) × MayTake (view_in pass.old) }
         ensures missed { result ≢ at → Becomes pass.old pass.new (view_in pass.old) }
     {
         self.table
@@ -216,7 +218,7 @@ impl<T: Drop, A: Allocator + Drop> Segment<T, A> {
         ensures pass { IsStill pass.old pass.new }
         ensures claimed { result ≡ at → (x : T)
             × (view_in pass.new ≡ with_duty done (took at x (view_in pass.old)))
-            × (held_by pass.new ≡ (at, Some x) ∷ held_by pass.old) }
+            × (held_by pass.new ≡ (at, Some x) ∷ held_by pass.old) × MayTake (view_in pass.old) }
         ensures missed { result ≢ at → Becomes pass.old pass.new (view_in pass.old) }
     {
         self.table

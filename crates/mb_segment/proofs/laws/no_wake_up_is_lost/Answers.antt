@@ -1,5 +1,6 @@
 use Rattle.mb_segment.proofs.Base.{arith, length, slice_index, ⊎_elim, ◌-◌}
 use Rattle.mb_segment.specs.Vocabulary.{drawn}
+use Rattle.mb_segment.proofs.Halves.{is_out}
 use Rattle.mb_segment.proofs.Kept.{at0, at1}
 use Rattle.mb_segment.proofs.LookMoves.{none_free}
 use Rattle.mb_segment.proofs.Places.{drawn_is}
@@ -19,3 +20,6 @@ returns-clause-over g c s k few over =
     let none_ = none_free k.cut (length k.states - drawn k.history) (slice_index s.words 0) (length k.states)
     (omega arith) (omega arith) (omega arith) in
     ⊎_elim (λ x. absurd (omega arith)) (λ x. omega arith) k.shut
+
+pub returns-clause-debtor : goal.returns-clause-debtor
+returns-clause-debtor g c s k n v at some_ = is_out v (k.fits n v at).debt some_

@@ -44,3 +44,6 @@ returns-clause-drawn g c s k p lt =
     let d = drawn_is s k in let l = all_length k.history in
     let b = at_below (all_entries k.history) p (omega arith) in
     (b.0, b.1, drawn_by s k p b.0 b.1)
+
+pub returns-clause-back : goal.returns-clause-back
+returns-clause-back g c s k n v at role = ((k.fits n v at).hub_ role).ends

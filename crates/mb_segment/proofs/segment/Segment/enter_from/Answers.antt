@@ -7,5 +7,5 @@ compare_exchange-requires g c = let wide = c.args.self.now.wide in let r = c.req
   r.segment,
   omega arith,
   goes_in c.args.self.now.table.shared.table_id.slots c.args.pass.now.seat.id c.args.pass.now.seat.me c.args.seen
-      c.args.new r.new,
+      c.args.new r.member r.new,
 )

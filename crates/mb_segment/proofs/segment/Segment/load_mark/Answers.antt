@@ -19,5 +19,5 @@ load-requires g c =
       subst (λ (p : ℕ). Allows Keeps slots c.args.pass.now.seat.id me c.state_of.result (λ n. n)
           (seeing_mark p (step slots c.state_of.result 0 0 none) me))
           (sym r.picked)
-          (sees_marks slots c.args.pass.now.seat.id me c.state_of.result c.args.at word (omega arith)),
+          (sees_marks slots c.args.pass.now.seat.id me c.state_of.result c.args.at word (omega arith) r.low),
     )
