@@ -190,7 +190,7 @@ module _ {T : Type 0} where
               falls = tt;
               near = inl refl;
               inside = λ l. absurd (true≢false (sym l));
-              takes = λ _. inl refl;
+              takes = λ _ j lt. absurd (omega arith);
               newborn = λ _. (refl, refl, refl, λ p. absurd (omega arith));
               idle = λ _. (refl, refl);
               ended = tt;
@@ -251,7 +251,7 @@ module _ {T : Type 0} where
       falls = tt;
       near = inl refl;
       inside = λ l. absurd (true≢false (sym l));
-      takes = λ _. inl refl;
+      takes = λ _ j lt. absurd (omega arith);
       newborn = λ _. (refl, refl, refl, λ _. refl);
       idle = λ z. absurd (omega arith);
       ended = tt;

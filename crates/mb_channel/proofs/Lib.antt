@@ -9,6 +9,7 @@ mod Logs
 mod Members
 mod Moves
 mod Places
+mod Rests
 mod Stays
 mod Theorems
 mod Turns

@@ -21,8 +21,7 @@ module _ {T : Type 0} where
   grows_same hs k h at = (h, at, (refl, λ d. d))
 
   pub next_grows : (hs gs : List (Home T)) → Grows hs gs → (k : ℕ) → IsNext hs k → IsNext gs k
-  next_grows hs gs grows k is = ⊎_elim (λ e. inl e)
-      (λ n. let a = n.2 in let g = grows n.0 a.0 a.1 in inr (n.0, n.1, (g.0, g.1, g.2.1 a.2))) is
+  next_grows hs gs grows k is j lt = let a = is j lt in let g = grows j a.0 a.1 in (g.0, g.1, g.2.1 a.2)
 
   pub near_grows : (hs gs : List (Home T)) → Grows hs gs → (k : ℕ) → IsNear hs k → IsNear gs k
   near_grows hs gs grows k is = ⊎_elim (λ e. inl e)

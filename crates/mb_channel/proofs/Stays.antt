@@ -1,6 +1,6 @@
 -- An end leaves a segment, and comes to one.
-use Rattle.std.proofs.Common.{ℕ, suc, Bool, true, false, true≢false, List, [], sym, refl, ap, subst, inl, inr, ⊎_elim, arith}
-use Rattle.std.proofs.Common.{◌≡◌, ◌≢◌, ◌⊎◌, ◌∷◌, ◌∙◌, ◌+◌, ◌-◌, ◌<◌, ◌≤◌}
+use Rattle.std.proofs.Common.{ℕ, zero, suc, Bool, true, false, true≢false, List, [], sym, refl, ap, subst, inl, inr, ⊎_elim, arith}
+use Rattle.std.proofs.Common.{◌≡◌, ◌≢◌, ◌⊎◌, ◌∷◌, ◌∙◌, ◌+◌, ◌-◌, ◌<◌, ◌≤◌, ◌&&◌}
 use Rattle.std.specs.Prelude.{Some, slice_set}
 use native.Mathlib.Decide.{ℕ_discrete}
 use mathlib.Core.Option.{some, some-injective}
@@ -12,6 +12,10 @@ use Rattle.mb_channel.specs.Homes.{Agrees, At, Falls, Grows, HasIssued, IsDone, 
 use Rattle.mb_channel.specs.Homes.{came_back, came_to, is_in, left_segment, made_by, made_in, out_of, total, unlocked, went_on}
 use Rattle.mb_channel.proofs.Moves.{ended_stay, grows_same, near_grows, next_grows, unlocks}
 use Rattle.mb_channel.proofs.Views.{below_total, by_other, by_own, in_else, in_here, in_none, in_other, in_own, made_map, size_set, there}
+
+both_are : (a b : Bool) → a && b ≡ true → (a ≡ true) × (b ≡ true)
+both_are true b e = (refl, e)
+both_are false b e = absurd (true≢false (sym e))
 
 module _ {T : Type 0} where
   -- one segment's hub has changed
@@ -64,6 +68,14 @@ module _ {T : Type 0} where
               (λ r. inr (next_grows hs (slice_set hs k g) grows m.visit.segment r)) w) x.turn,
         );
       }
+
+  -- all before the next one are done
+  one_more : (hs : List (Home T)) (k : ℕ) → IsNext hs k → At hs k IsDone → IsNext hs (suc k)
+  one_more hs k next here j lt = go (ℕ_discrete j k)
+    where
+      go : Dec (j ≡ k) → At hs j IsDone
+      go (yes e) = subst (λ i. At hs i IsDone) (sym e) here
+      go (no ne) = next j (omega arith)
 
   -- who may not receive has received nothing
   rich : (P : Type 0) (b c : Bool) → c ≡ b → (a : Account T) → (c ≡ true → P) → (c ≡ false → a.got ≡ [])
@@ -122,7 +134,9 @@ module _ {T : Type 0} where
           falls = (omega arith, f.falls);
           near = subst (λ l. IsNear l (suc v.at)) (sym now) (inr (v.at, refl, (g, there_, tt)));
           inside = λ q. absurd (true≢false (sym q));
-          takes = λ q. subst (λ l. IsNext l (suc v.at)) (sym now) (inr (v.at, refl, (g, there_, next q)));
+          takes = λ q. subst (λ l. IsNext l (suc v.at)) (sym now) (one_more (slice_set k.homes v.at g) v.at
+              (next_grows k.homes (slice_set k.homes v.at g) grows v.at (f.takes (both_are v.takes done q).0))
+              (g, there_, next (both_are v.takes done q).1));
           newborn = λ q. absurd (true≢false (sym live ∙ q));
           idle = λ z. absurd (omega arith);
           ended = ended_stay s k id v w at' part (m ∷ k.all) others;
@@ -174,7 +188,8 @@ module _ {T : Type 0} where
   falls_more b c (v ∷ vs) le f = (let x = f.0 in omega arith, f.1)
 
   near_next : (hs : List (Home T)) (k : ℕ) → IsNext hs k → IsNear hs k
-  near_next hs k n = ⊎_elim (λ e. inl e) (λ t. inr (t.0, t.1, (t.2.0, t.2.1, tt))) n
+  near_next hs zero n = inl refl
+  near_next hs (suc j) n = let a = n j (omega arith) in inr (j, refl, (a.0, a.1, tt))
 
   -- all segments before place j are freed
   pub unlocks_on : (j slots id : ℕ) (me : Sat T) (y : Homes T) (hs : List (Home T)) → Stands hs y

@@ -1,6 +1,6 @@
 -- The list of segments under the channel's lock, and which end did what in which segment.
 -- Words: 0 the lock, 1 for how many ends the ends count. Slot 0: the segments.
-use Rattle.std.specs.Prelude.{ℕ, suc, ◌≡◌, ◌≢◌, ◌+◌, ◌-◌, ◌<◌, ◌≤◌, ◌⊎◌, ◌++◌, Bool, true, false, nat_eq, if◌then◌else◌}
+use Rattle.std.specs.Prelude.{ℕ, suc, ◌≡◌, ◌≢◌, ◌+◌, ◌-◌, ◌<◌, ◌≤◌, ◌⊎◌, ◌++◌, ◌&&◌, Bool, true, false, nat_eq, if◌then◌else◌}
 use Rattle.std.specs.Prelude.{List, [], ◌∷◌, length, slice_set, Option, Some, None}
 use mathlib.Core.Option.{some, none}
 use lib.ListN.{get_elem?}
@@ -67,9 +67,9 @@ pub record Stands {T : Type 0} (hs : List (Home T)) (l : Homes T) : Type 0 where
 abbrev pub At : {T : Type 0} → List (Home T) → ℕ → (Home T → Type 0) → Type 0
 At {T} hs k P = (h : Home T) × (get_elem? hs k ≡ some h) × P h
 
--- nothing waits in the segment before k, for ever
+-- each segment before k is done: nothing waits there, for ever
 abbrev pub IsNext : {T : Type 0} → List (Home T) → ℕ → Type 0
-IsNext hs k = (k ≡ 0) ⊎ ((j : ℕ) × (suc j ≡ k) × At hs j IsDone)
+IsNext hs k = (j : ℕ) → j < k → At hs j IsDone
 
 -- segment k is there, or it may be the next one
 abbrev pub IsNear : {T : Type 0} → List (Home T) → ℕ → Type 0
@@ -220,13 +220,13 @@ both v w = record v { rights = v.rights + w.rights; ended = v.ended ++ (past_of 
 abbrev pub newborn_view : {T : Type 0} → Knows T → Knows T
 newborn_view v = record first_view { at = v.at; takes = v.takes }
 
--- it has left its segment, in which it did this. If that is done, it may receive in the next one
+-- it has left its segment, in which it did this. If that is done, it may receive in the next one if it could in that
 abbrev pub left_segment : {T : Type 0} → Account T → Bool → Knows T → Knows T
 left_segment a done v = record v {
   visits = record { segment = v.at; account = a } ∷ v.visits;
   inside = false;
   at = suc v.at;
-  takes = done;
+  takes = v.takes && done;
 }
 
 -- all segments before k are freed: it goes on to that one, and may receive there

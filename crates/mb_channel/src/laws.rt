@@ -4,7 +4,7 @@ ghost use Rattle.mb_channel.specs.ChannelTheorem.{EachMoment, End, History, Mome
 ghost use Rattle.mb_channel.specs.Stays.{AreStays, Told, life_of};
 ghost use Rattle.mb_channel.specs.Types.{Home, Knows};
 ghost use Rattle.mb_channel.specs.Homes.{IsWhole};
-ghost use Rattle.mb_channel.specs.Lives.{DoneInTurn, HaveEnded, HaveLived, all_left, end_in};
+ghost use Rattle.mb_channel.specs.Lives.{HaveEnded, HaveLived, all_left, end_in};
 ghost use Rattle.mb_channel.specs.Segments.{AreLogs, EachKeeps, InTurn, KeepsEnd, TakenInTurn};
 
 /// At each moment: if each segment keeps its own rule, and they follow each other in turn, the channel's points hold.
@@ -32,6 +32,6 @@ pub fn passes_make_ends<T>()
 /// given back is what the segments had left, and both are of one life.
 pub fn lists_make_lives<T: Drop>()
     ensures life { (v : Knows T) (hs : List (Home T)) (ls : List (List T))
-        → IsWhole v hs → HaveEnded hs ls → DoneInTurn hs
+        → IsWhole v hs → HaveEnded hs ls
         → HaveLived (end_in v hs) (all_left ls) }
 {}

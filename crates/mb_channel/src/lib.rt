@@ -7,6 +7,7 @@ mod home;
 pub mod laws;
 mod list;
 mod passes;
+mod rest;
 mod rule;
 pub mod samples;
 mod view;
@@ -14,4 +15,5 @@ mod visits;
 
 pub use answers::Came;
 pub use home::{Home, Homes, Shared};
+pub use rest::{Ending, Rest};
 pub use view::{Knows, Past, Visit};

@@ -72,8 +72,8 @@ impl<T: Drop> List<T> {
     }
 
     /// Leaves the segment at this place, to which the pass belongs. `over` says whether the pass saw that no value can
-    /// come any more. It tells whether some pass did: then the end may receive in the next segment. It gives the pass
-    /// back in `Err` if the lock is taken.
+    /// come any more. It tells whether some pass did: then the end may receive in the next segment, if it could in this
+    /// one. It gives the pass back in `Err` if the lock is taken.
     pub fn leave(
         &self,
         chair: &mut Chair<T>,

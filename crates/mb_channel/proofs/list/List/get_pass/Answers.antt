@@ -22,7 +22,7 @@ returns-then-at-homes-clause-answer g c = let t = c.requires.homes in let lt = c
     let s = subst (λ l. Stands t.2 l) (sym same) t.3 in (
       (now, only_one c.args.chair.now.me.1 t.0 now t.1, t.2, s, t.4),
       lt,
-      subst (λ x. IsNext x now.first) t.4 (next_is t.2 now s (omega arith)),
+      subst (λ x. IsNext x now.first) t.4 (next_is t.2 now s),
     )
 
 pub returns-in-Some-clause-answer : goal.returns-in-Some-clause-answer
