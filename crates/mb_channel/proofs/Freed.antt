@@ -92,6 +92,14 @@ module _ {T : Type 0} where
         (all_at IsFreed s.gone s.freed j x.0 x.1).done,
       )
 
+  -- a place behind the list is behind all
+  pub behind_all : (hs : List (Home T)) (l : Homes T) (k : ℕ) → Stands hs l → l.first ≤ k
+      → length l.list.items ≤ k - l.first → length hs ≤ k
+  behind_all hs l k s le long =
+      let number = s.number in
+      let n = length-append s.gone l.list.items in
+      let e = ap length s.all in omega arith
+
   -- ---- the list changes
   stands_set : (hs : List (Home T)) (l m : Homes T) (k : ℕ) (g : Home T) → Stands hs l → l.first ≤ k
       → m.list.items ≡ slice_set l.list.items (k - l.first) g → m.first ≡ l.first → Stands (slice_set hs k g) m

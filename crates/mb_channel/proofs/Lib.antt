@@ -1,6 +1,7 @@
 mod Accounts
 mod Back
 mod Chairs
+mod Closing
 mod Counts
 mod Ends
 mod Freed
@@ -15,3 +16,4 @@ mod Theorems
 mod Turns
 mod Views
 mod Visited
+mod Whole

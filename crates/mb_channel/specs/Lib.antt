@@ -8,3 +8,5 @@ pub mod Answers
 pub mod Lives
 pub mod LifeSamples
 pub mod Rests
+pub mod Closing
+pub mod Tallies

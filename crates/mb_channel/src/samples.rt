@@ -1,6 +1,6 @@
 //! Samples of the theorem's definitions: what they admit, and what only looks right. The functions compute nothing:
 //! their contracts are the samples.
-ghost use Rattle.std.specs.Prelude.{ℕ, [], ◌∷◌, ◌≡◌, true, false};
+ghost use Rattle.std.specs.Prelude.{ℕ, Some, [], ◌∷◌, ◌≡◌, true, false};
 ghost use Rattle.mb_channel.specs.ChannelSamples.{forgotten, one_sender, one_taken, overtaken, overtaken_life, swapped_life};
 ghost use Rattle.mb_channel.specs.ChannelSamples.{taken_twice, two_and_two, two_segments, two_taken, unheeded, unheeded_life, unheeded_take};
 ghost use Rattle.mb_channel.specs.ChannelSamples.{ended, refused_beside_a_receiver, told_beside_a_sender, told_too_soon, value_behind};
@@ -9,7 +9,8 @@ ghost use Rattle.mb_channel.specs.ChannelSamples.{sleepers, two_forsaken, two_wa
 ghost use Rattle.mb_channel.specs.ChannelTheorem.{EachBounded, EachMoment, WholeLife};
 ghost use Rattle.mb_channel.specs.ChannelSamples.{call, claim, entry, history, receiver, sender};
 ghost use Rattle.mb_channel.specs.LifeSamples.{TellsOf, by_passes, ends_for_passes, last_end, one_got, stay, two_ends, two_sent, two_stays};
-ghost use Rattle.mb_channel.specs.Homes.{IsDone, IsNext, came_back};
+ghost use Rattle.mb_channel.specs.Homes.{IsDone, IsNext, came_back, first_view};
+ghost use Rattle.mb_channel.specs.Tallies.{IsTold};
 ghost use Rattle.mb_channel.specs.Types.{Home};
 ghost use Rattle.mb_channel.specs.Segments.{AreLogs, EachKeeps, InTurn, KeepsEnd, TakenInTurn};
 ghost use Rattle.mb_channel.specs.Stays.{AllBy, AllTo, AreApart, DidSo, Told, by_ends};
@@ -99,4 +100,13 @@ pub fn sample_visits()
     ensures forgotten { (h : Home ℕ) → HaveEnded (h ∷ []) [] → ⊥ }
     ensures next { (h g : Home ℕ) → IsDone h → IsNext (h ∷ g ∷ []) 1 }
     ensures past { (h g : Home ℕ) → (IsDone h → ⊥) → IsDone g → IsNext (h ∷ g ∷ []) 2 → ⊥ }
+{}
+
+/// An end is told "closed" where it saw that no sender is left, or that the list is closed. Refused: that it saw neither.
+pub fn sample_told()
+    ensures alone { IsTold 2 (first_view {T = ℕ})
+        (record first_view { alone = true; last = Some 2 }) }
+    ensures shut { IsTold 2 (first_view {T = ℕ})
+        (record first_view { shut = true; last = Some 2 }) }
+    ensures neither { IsTold 2 (first_view {T = ℕ}) (record first_view { last = Some 2 }) → ⊥ }
 {}
