@@ -1,6 +1,7 @@
 mod Accounts
 mod Back
 mod Chairs
+mod Closing
 mod Counts
 mod Ends
 mod Freed
@@ -9,8 +10,10 @@ mod Logs
 mod Members
 mod Moves
 mod Places
+mod Rests
 mod Stays
 mod Theorems
 mod Turns
 mod Views
 mod Visited
+mod Whole

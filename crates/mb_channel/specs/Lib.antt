@@ -7,3 +7,6 @@ pub mod Homes
 pub mod Answers
 pub mod Lives
 pub mod LifeSamples
+pub mod Rests
+pub mod Closing
+pub mod Tallies

@@ -6,12 +6,15 @@ mod answers;
 mod home;
 pub mod laws;
 mod list;
+mod parties;
 mod passes;
+mod rest;
 mod rule;
 pub mod samples;
 mod view;
 mod visits;
 
-pub use answers::Came;
+pub use answers::{Appended, Came, Retired};
 pub use home::{Home, Homes, Shared};
+pub use rest::{Ending, Rest};
 pub use view::{Knows, Past, Visit};
