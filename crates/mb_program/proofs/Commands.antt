@@ -100,5 +100,8 @@ pub unnamed : (words : List Text) (app : App) (m : ArgMatches) (kind : ErrorKind
     → r ≡ None → ((choice : Choice) → subcommand_name_of m ≡ Some (choice_name choice) → IsSome r)
     → kind ≡ InvalidSubcommand → IsRefusalOf words kind
 unnamed words app m kind r is_program matches faultless none each is =
-    inr (inr (is, sym (faults_alike app words is_program) ∙ faultless,
-    λ choice named. not_some r none (each choice (named_in app words m choice is_program matches named))))
+    inr (inr (
+      is,
+      sym (faults_alike app words is_program) ∙ faultless,
+      λ choice named. not_some r none (each choice (named_in app words m choice is_program matches named)),
+    ))

@@ -33,7 +33,9 @@ fn root_command<'a>(alloc: Global) -> Result<Command<'a>, AllocError>
         Command::new(alloc, "mailbox")
             .bin_name("mailbox")?
             .version(VERSION)
-            .about("Message passing between threads, on a mailbox with a proof that no item is taken twice")
+            .about(
+                "Message passing between threads, on a mailbox with a proof that no item is taken twice",
+            )
             .after_help(help::PROGRAM)
             .subcommand_required(true),
     )
