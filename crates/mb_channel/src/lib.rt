@@ -3,6 +3,8 @@
 #![tactic(auto)]
 
 mod answers;
+#[cfg(test)]
+mod closing_tests;
 mod home;
 pub mod laws;
 mod list;
