@@ -2,6 +2,7 @@ mod Accounts
 mod Back
 mod Chairs
 mod Counts
+mod EndLogs
 mod Ends
 mod Freed
 mod Lives

@@ -7,3 +7,5 @@ pub mod Homes
 pub mod Answers
 pub mod Lives
 pub mod LifeSamples
+pub mod Inside
+pub mod Ends

@@ -3,15 +3,24 @@
 #![tactic(auto)]
 
 mod answers;
+mod channel;
+mod end;
 mod home;
+mod inside;
 pub mod laws;
 mod list;
+mod making;
 mod passes;
+mod receives;
 mod rule;
 pub mod samples;
+mod sends;
 mod view;
 mod visits;
 
 pub use answers::Came;
+pub use channel::{Channel, Refused};
+pub use end::{Receiver, Sender};
 pub use home::{Home, Homes, Shared};
+pub use sends::NotSent;
 pub use view::{Knows, Past, Visit};
