@@ -7,6 +7,7 @@ mod Ends
 mod Freed
 mod Lives
 mod Logs
+mod LogsTold
 mod Members
 mod Moves
 mod Places

@@ -9,3 +9,4 @@ pub mod Lives
 pub mod LifeSamples
 pub mod Inside
 pub mod Ends
+pub mod Told

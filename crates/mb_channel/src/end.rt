@@ -7,8 +7,9 @@ use crate::inside::Inside;
 use crate::list::Chair;
 use std::sync::Wait;
 
-/// An end of a channel: where it is, and what it has there. It cannot be dropped: another end takes it back, or it ends
-/// the channel.
+/// An end of a channel: where it is, and what it has there. If it is dropped, it never comes back: the channel cannot be
+/// ended then, and the segment where it is and those behind stay.
+#[derive(Drop)]
 pub struct End<T: Drop> {
     pub(crate) chair: Chair<T>,
     pub(crate) at: usize,
@@ -26,11 +27,13 @@ pub struct End<T: Drop> {
 }
 
 /// An end that sends.
+#[derive(Drop)]
 pub struct Sender<T: Drop> {
     pub(crate) end: End<T>,
 }
 
 /// An end that receives.
+#[derive(Drop)]
 pub struct Receiver<T: Drop> {
     pub(crate) end: End<T>,
     ghost takes: { (view_in end.chair).takes ≡ true },

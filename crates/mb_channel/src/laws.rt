@@ -6,6 +6,7 @@ ghost use Rattle.mb_channel.specs.Types.{Home, Knows};
 ghost use Rattle.mb_channel.specs.Homes.{IsWhole};
 ghost use Rattle.mb_channel.specs.Lives.{DoneInTurn, HaveEnded, HaveLived, all_left, end_in};
 ghost use Rattle.mb_channel.specs.Segments.{AreLogs, EachKeeps, InTurn, KeepsEnd, TakenInTurn};
+ghost use Rattle.mb_channel.specs.Told.{AllTell};
 
 /// At each moment: if each segment keeps its own rule, and they follow each other in turn, the channel's points hold.
 pub fn moments_keep_the_theorem<T>()
@@ -34,4 +35,10 @@ pub fn lists_make_lives<T: Drop>()
     ensures life { (v : Knows T) (hs : List (Home T)) (ls : List (List T))
         → IsWhole v hs → HaveEnded hs ls → DoneInTurn hs
         → HaveLived (end_in v hs) (all_left ls) }
+{}
+
+/// Of a whole life: what it lists of each end is what the end's log has.
+pub fn lives_have_the_logs<T: Drop>()
+    ensures logs { (v : Knows T) (hs : List (Home T)) (ls : List (List T))
+        → IsWhole v hs → HaveEnded hs ls → AllTell v hs }
 {}

@@ -5,6 +5,7 @@
 mod answers;
 mod channel;
 mod end;
+mod ending;
 mod home;
 mod inside;
 pub mod laws;
@@ -15,6 +16,8 @@ mod receives;
 mod rule;
 pub mod samples;
 mod sends;
+#[cfg(test)]
+mod tests;
 mod view;
 mod visits;
 

@@ -6,4 +6,5 @@ abbrev pub invariant-loop : goal.invariant-loop
 invariant-loop g l =
     (goal.iterator-loop g).can_next l.iterator' × (goal.iterator-loop g).is_finite l.iterator'
     × IsSame l.initial.receiver.end l.receiver.end
-    × (sent_by l.receiver.end ≡ sent_by l.initial.receiver.end) × (got_by l.receiver.end ≡ got_by l.initial.receiver.end)
+    × (sent_by l.receiver.end ≡ sent_by l.initial.receiver.end)
+    × (got_by l.receiver.end ≡ got_by l.initial.receiver.end)
