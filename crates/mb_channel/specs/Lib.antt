@@ -10,3 +10,4 @@ pub mod LifeSamples
 pub mod Inside
 pub mod Ends
 pub mod Told
+pub mod Receives

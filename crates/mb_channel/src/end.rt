@@ -5,7 +5,10 @@ ghost use Rattle.mb_channel.specs.Inside.{got_there, share_in};
 
 use crate::inside::Inside;
 use crate::list::Chair;
+use crate::tried::Tried;
+use mb_segment::Received;
 use std::sync::Wait;
+use std::time::{Clock, Instant};
 
 /// An end of a channel: where it is, and what it has there. If it is dropped, it never comes back: the channel cannot be
 /// ended then, and the segment where it is and those behind stay.
@@ -72,5 +75,49 @@ impl<T: Drop> End<T> {
         let (inside, got) = inside.receive(rt);
         self.inside = Some(inside);
         got
+    }
+}
+
+impl<T: Drop> End<T> {
+    ghost use Rattle.std.specs.Prelude.{◌++◌, ◌∷◌, IfNone, IfSome};
+    ghost use Rattle.mb_segment.specs.Waiting.{OfReceived};
+    ghost use Rattle.mb_channel.specs.Ends.{IsOver, got_by, sent_by, view_of};
+    ghost use Rattle.mb_channel.specs.Receives.{OfTried, SawEmpty};
+
+    /// Receives a value in the segment where the end is, until a deadline. An end that is in none is told that none can
+    /// come there.
+    pub(crate) fn receive_by<R: Wait + Clock>(&mut self, rt: &R, deadline: Instant) -> Received<T>
+        requires takes { (view_of self.old).takes ≡ true }
+        ensures chair { self.new.chair ≡ self.old.chair }
+        ensures answer { OfReceived result
+            (λ x. got_by self.new ≡ got_by self.old ++ x ∷ [])
+            (IsOver self.new × (got_by self.new ≡ got_by self.old))
+            (SawEmpty self.new × (got_by self.new ≡ got_by self.old)) }
+        ensures sent { sent_by self.new ≡ sent_by self.old }
+    {
+        let Some(inside) = self.inside.take() else {
+            return Received::Over;
+        };
+        let (inside, got) = inside.receive_by(rt, deadline);
+        self.inside = Some(inside);
+        got
+    }
+
+    /// Tries to receive a value in the segment where the end is. `None` if the end is in none, or if none can come there
+    /// any more.
+    pub(crate) fn try_receive(&mut self) -> Option<Tried<T>>
+        requires takes { (view_of self.old).takes ≡ true }
+        ensures chair { self.new.chair ≡ self.old.chair }
+        ensures answer { IfSome result (λ t. OfTried t
+            (λ x. got_by self.new ≡ got_by self.old ++ x ∷ [])
+            (SawEmpty self.new × (got_by self.new ≡ got_by self.old))
+            (got_by self.new ≡ got_by self.old)) }
+        ensures none { IfNone result (IsOver self.new × (got_by self.new ≡ got_by self.old)) }
+        ensures sent { sent_by self.new ≡ sent_by self.old }
+    {
+        let inside = self.inside.take()?;
+        let (inside, tried) = inside.try_receive();
+        self.inside = Some(inside);
+        tried
     }
 }

@@ -4,8 +4,10 @@ ghost use Rattle.std.specs.Arc.{arc_value};
 ghost use Rattle.mb_segment.specs.Waiting.{value_of};
 
 use crate::home::Shared;
-use mb_segment::{Idle, NotSent};
+use crate::tried::Tried;
+use mb_segment::{Idle, Look, NotSent, Received};
 use std::sync::Wait;
+use std::time::{Clock, Instant};
 
 /// A share of the segment, and a pass there.
 #[derive(Drop)]
@@ -91,6 +93,149 @@ impl<T: Drop> Inside<T> {
                 )
             }
             None => {
+                let pass = pass.rest();
+                let over = true;
+                (
+                    Inside {
+                        segment,
+                        pass,
+                        over,
+                    },
+                    None,
+                )
+            }
+        }
+    }
+}
+
+impl<T: Drop> Inside<T> {
+    ghost use Rattle.std.specs.Prelude.{◌++◌, ◌∷◌, [], true, IfNone, IfSome};
+    ghost use Rattle.mb_segment.specs.Waiting.{OfReceived};
+    ghost use Rattle.mb_channel.specs.Inside.{account_in, values};
+    ghost use Rattle.mb_channel.specs.Receives.{OfTried, SawNothing};
+
+    /// Receives a value here, until a deadline.
+    pub(crate) fn receive_by<R: Wait + Clock>(
+        self,
+        rt: &R,
+        deadline: Instant,
+    ) -> (Inside<T>, Received<T>)
+        ensures segment { result.0.segment ≡ self.segment }
+        ensures answer { OfReceived result.1
+            (λ x. values (account_in result.0).got ≡ values (account_in self).got ++ x ∷ [])
+            ((result.0.over ≡ true) × ((account_in result.0).got ≡ (account_in self).got))
+            (SawNothing result.0 × ((account_in result.0).got ≡ (account_in self).got)) }
+        ensures sent { (account_in result.0).sent ≡ (account_in self).sent }
+    {
+        let Inside {
+            segment,
+            pass,
+            over,
+        } = self;
+        let mut pass = pass.pass();
+        match segment.receive_by(rt, &mut pass, deadline) {
+            Received::Value(value) => {
+                let pass = pass.rest();
+                (
+                    Inside {
+                        segment,
+                        pass,
+                        over,
+                    },
+                    Received::Value(value),
+                )
+            }
+            Received::Over => {
+                let pass = pass.rest();
+                let over = true;
+                (
+                    Inside {
+                        segment,
+                        pass,
+                        over,
+                    },
+                    Received::Over,
+                )
+            }
+            Received::TimedOut => {
+                let pass = pass.rest();
+                (
+                    Inside {
+                        segment,
+                        pass,
+                        over,
+                    },
+                    Received::TimedOut,
+                )
+            }
+        }
+    }
+
+    /// Tries to receive a value here. `None` only if none can come any more.
+    pub(crate) fn try_receive(self) -> (Inside<T>, Option<Tried<T>>)
+        ensures segment { result.0.segment ≡ self.segment }
+        ensures answer { IfSome result.1 (λ t. OfTried t
+            (λ x. values (account_in result.0).got ≡ values (account_in self).got ++ x ∷ [])
+            (SawNothing result.0 × ((account_in result.0).got ≡ (account_in self).got))
+            ((account_in result.0).got ≡ (account_in self).got)) }
+        ensures over { IfNone result.1 ((result.0.over ≡ true)
+            × ((account_in result.0).got ≡ (account_in self).got)) }
+        ensures sent { (account_in result.0).sent ≡ (account_in self).sent }
+    {
+        let Inside {
+            segment,
+            pass,
+            over,
+        } = self;
+        let mut pass = pass.pass();
+        match segment.look(&mut pass) {
+            Look::Ready(at) => {
+                if segment.claim(&mut pass, at) {
+                    let value = segment.read(&mut pass, at);
+                    let pass = pass.rest();
+                    (
+                        Inside {
+                            segment,
+                            pass,
+                            over,
+                        },
+                        Some(Tried::Value(value)),
+                    )
+                } else {
+                    let pass = pass.rest();
+                    (
+                        Inside {
+                            segment,
+                            pass,
+                            over,
+                        },
+                        Some(Tried::Again),
+                    )
+                }
+            }
+            Look::Yield => {
+                let pass = pass.rest();
+                (
+                    Inside {
+                        segment,
+                        pass,
+                        over,
+                    },
+                    Some(Tried::Again),
+                )
+            }
+            Look::Empty => {
+                let pass = pass.rest();
+                (
+                    Inside {
+                        segment,
+                        pass,
+                        over,
+                    },
+                    Some(Tried::Empty),
+                )
+            }
+            Look::Over => {
                 let pass = pass.rest();
                 let over = true;
                 (

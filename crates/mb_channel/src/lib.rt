@@ -18,6 +18,7 @@ pub mod samples;
 mod sends;
 #[cfg(test)]
 mod tests;
+mod tried;
 mod view;
 mod visits;
 
@@ -26,4 +27,5 @@ pub use channel::{Channel, Refused};
 pub use end::{Receiver, Sender};
 pub use home::{Home, Homes, Shared};
 pub use sends::NotSent;
+pub use tried::Tried;
 pub use view::{Knows, Past, Visit};
