@@ -1,11 +1,12 @@
 //! What an end has of the segment where it is.
 ghost use Rattle.std.specs.Prelude.{◌≡◌};
 ghost use Rattle.std.specs.Arc.{arc_value};
+ghost use Rattle.mb_segment.specs.Seats.{IsFree, view_in};
 ghost use Rattle.mb_segment.specs.Waiting.{value_of};
 
 use crate::home::Shared;
 use crate::tried::Tried;
-use mb_segment::{Idle, Look, NotSent, Received};
+use mb_segment::{Idle, Look, NotSent, Pass, Received};
 use std::sync::Wait;
 use std::time::{Clock, Instant};
 
@@ -40,28 +41,8 @@ impl<T: Drop> Inside<T> {
         } = self;
         let mut pass = pass.pass();
         match segment.send(rt, &mut pass, value) {
-            Ok(()) => {
-                let pass = pass.rest();
-                (
-                    Inside {
-                        segment,
-                        pass,
-                        over,
-                    },
-                    Ok(()),
-                )
-            }
-            Err(refused) => {
-                let pass = pass.rest();
-                (
-                    Inside {
-                        segment,
-                        pass,
-                        over,
-                    },
-                    Err(value_in(refused)),
-                )
-            }
+            Ok(()) => (rested(segment, pass, over), Ok(())),
+            Err(refused) => (rested(segment, pass, over), Err(value_in(refused))),
         }
     }
 
@@ -81,29 +62,8 @@ impl<T: Drop> Inside<T> {
         } = self;
         let mut pass = pass.pass();
         match segment.receive(rt, &mut pass) {
-            Some(value) => {
-                let pass = pass.rest();
-                (
-                    Inside {
-                        segment,
-                        pass,
-                        over,
-                    },
-                    Some(value),
-                )
-            }
-            None => {
-                let pass = pass.rest();
-                let over = true;
-                (
-                    Inside {
-                        segment,
-                        pass,
-                        over,
-                    },
-                    None,
-                )
-            }
+            Some(value) => (rested(segment, pass, over), Some(value)),
+            None => (rested(segment, pass, true), None),
         }
     }
 }
@@ -134,40 +94,9 @@ impl<T: Drop> Inside<T> {
         } = self;
         let mut pass = pass.pass();
         match segment.receive_by(rt, &mut pass, deadline) {
-            Received::Value(value) => {
-                let pass = pass.rest();
-                (
-                    Inside {
-                        segment,
-                        pass,
-                        over,
-                    },
-                    Received::Value(value),
-                )
-            }
-            Received::Over => {
-                let pass = pass.rest();
-                let over = true;
-                (
-                    Inside {
-                        segment,
-                        pass,
-                        over,
-                    },
-                    Received::Over,
-                )
-            }
-            Received::TimedOut => {
-                let pass = pass.rest();
-                (
-                    Inside {
-                        segment,
-                        pass,
-                        over,
-                    },
-                    Received::TimedOut,
-                )
-            }
+            Received::Value(value) => (rested(segment, pass, over), Received::Value(value)),
+            Received::Over => (rested(segment, pass, true), Received::Over),
+            Received::TimedOut => (rested(segment, pass, over), Received::TimedOut),
         }
     }
 
@@ -192,62 +121,32 @@ impl<T: Drop> Inside<T> {
             Look::Ready(at) => {
                 if segment.claim(&mut pass, at) {
                     let value = segment.read(&mut pass, at);
-                    let pass = pass.rest();
-                    (
-                        Inside {
-                            segment,
-                            pass,
-                            over,
-                        },
-                        Some(Tried::Value(value)),
-                    )
+                    (rested(segment, pass, over), Some(Tried::Value(value)))
                 } else {
-                    let pass = pass.rest();
-                    (
-                        Inside {
-                            segment,
-                            pass,
-                            over,
-                        },
-                        Some(Tried::Again),
-                    )
+                    (rested(segment, pass, over), Some(Tried::Again))
                 }
             }
-            Look::Yield => {
-                let pass = pass.rest();
-                (
-                    Inside {
-                        segment,
-                        pass,
-                        over,
-                    },
-                    Some(Tried::Again),
-                )
-            }
-            Look::Empty => {
-                let pass = pass.rest();
-                (
-                    Inside {
-                        segment,
-                        pass,
-                        over,
-                    },
-                    Some(Tried::Empty),
-                )
-            }
-            Look::Over => {
-                let pass = pass.rest();
-                let over = true;
-                (
-                    Inside {
-                        segment,
-                        pass,
-                        over,
-                    },
-                    None,
-                )
-            }
+            Look::Yield => (rested(segment, pass, over), Some(Tried::Again)),
+            Look::Empty => (rested(segment, pass, over), Some(Tried::Empty)),
+            Look::Over => (rested(segment, pass, true), None),
         }
+    }
+}
+
+/// The pass, at rest.
+fn rested<T: Drop>(segment: Shared<T>, pass: Pass<T>, over: bool) -> Inside<T>
+    requires same { pass.seat.table_id ≡ (arc_value segment).table.shared.table_id }
+    requires free { IsFree pass }
+    requires told { over ≡ (view_in pass).over }
+    ensures segment { result.segment ≡ segment }
+    ensures pass { result.pass.seat ≡ pass.seat }
+    ensures over { result.over ≡ over }
+{
+    let pass = pass.rest();
+    Inside {
+        segment,
+        pass,
+        over,
     }
 }
 

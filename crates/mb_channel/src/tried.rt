@@ -4,7 +4,8 @@
 #[derive(Debug, Drop)]
 pub enum Tried<T> {
     Value(T),
-    /// At a moment of this call all was received that was sent in the receiver's segment before it.
+    /// No value is there. At a moment of this call all was received that this end had sent in its segment, or had seen
+    /// there.
     Empty,
     /// A value is being sent, or another end was first, or the lock is taken. Yield, and try again.
     Again,
