@@ -1,5 +1,5 @@
 -- What an end sent and received in all, and which channel it belongs to.
-use Rattle.std.specs.Prelude.{ℕ, ◌≡◌, List, [], map, true, IfSome}
+use Rattle.std.specs.Prelude.{◌≡◌, List, [], map, true, IfSome}
 use Rattle.mb_channel.specs.Types.{Knows}
 use Rattle.mb_channel.specs.declared.channel.Channel.{Channel}
 use Rattle.mb_channel.specs.declared.end.End.{End}
