@@ -1,15 +1,18 @@
-//! Threads over one channel: values by two senders to two receivers, over more than one segment, and the end.
+//! Threads over one channel: values by two senders to two receivers, over more than one segment. Then each answer, and
+//! an end that comes too early.
 ghost use Rattle.std.specs.Prelude.{◌≡◌};
 ghost use Rattle.std.specs.Thread.{IsSync};
 ghost use Rattle.mb_channel.specs.Ends.{IsEndOf};
 
 use crate::channel::Channel;
 use crate::end::{Receiver, Sender};
+use crate::tried::Tried;
 use std::alloc::{AllocError, Global};
 use std::process::Abort;
 use std::sync::Wait;
 use std::test::Fail;
 use std::thread::{Threads, join};
+use std::time::{Duration, Instant};
 
 fn send_all<R: Wait>(rt: &R, channel: &Channel<u64>, sender: Sender<u64>, many: u64) -> Sender<u64>
     requires channel { IsEndOf channel.now sender.end }
@@ -126,5 +129,31 @@ fn run_four<R: Threads + Wait + Abort + Sync>(
 fn two_send_and_two_receive(rt: HostRuntime) -> Result<(), Fail> {
     let all = run_four(&rt, rt.alloc(), 1500)?;
     assert!(rt; all == (2248500, true));
+    Ok(())
+}
+
+#[test]
+fn one_end_after_the_other(rt: HostRuntime) -> Result<(), Fail> {
+    let (channel, mut receiver) = Channel::<u64>::new(rt.alloc())?;
+    let mut sender = channel.sender(&rt, &mut receiver).expect(&rt, "an end");
+    let mut other = channel
+        .another_sender(&rt, &mut sender)
+        .expect(&rt, "an end");
+    let now = Instant::now(&rt)?;
+    let soon = now.checked_add(Duration::from_millis(20)).unwrap_or(now);
+    let none = channel.receive_by(&rt, &mut receiver, soon);
+    drop(channel.send(&rt, &mut sender, 7));
+    drop(channel.send(&rt, &mut other, 8));
+    let first = channel.try_receive(&mut receiver);
+    let second = channel.receive_by(&rt, &mut receiver, soon);
+    let empty = channel.try_receive(&mut receiver);
+    channel.give_sender(&rt, &mut receiver, sender);
+    let early = channel.end(&rt, receiver);
+    drop(other);
+    assert!(rt; matches!(&none, Ok(None)));
+    assert!(rt; matches!(&first, Ok(Tried::Value(7))));
+    assert!(rt; matches!(&second, Ok(Some(8))));
+    assert!(rt; matches!(&empty, Ok(Tried::Empty)));
+    assert!(rt; early.is_none());
     Ok(())
 }
