@@ -1,27 +1,33 @@
--- Ends are made from one another and given back, and what is known at the end.
-use Rattle.std.proofs.Common.{ℕ, zero, suc, Bool, true, false, true≢false, List, [], length, nat_eq, sym, refl, ap, subst, inl, ⊎_elim, arith, ne_eqb}
-use Rattle.std.proofs.Common.{◌≡◌, ◌≢◌, ◌+◌, ◌<◌, ◌∷◌, ◌++◌, ◌∙◌, if◌then◌else◌}
-use Rattle.std.specs.Prelude.{slice_set}
-use mathlib.Core.Option.{some, some-injective, some-ne-none}
+-- Ends are made from one another and given back.
+use Rattle.std.proofs.Common.{ℕ, Bool, true, false, true≢false, List, [], length, sym, refl, ap, subst, inl, inr, ⊎_elim, arith}
+use Rattle.std.proofs.Common.{◌≡◌, ◌≢◌, ◌<◌, ◌≤◌, ◌⊎◌, ◌||◌, ◌∷◌, ◌++◌, ◌∙◌}
+use Rattle.std.specs.Prelude.{None, is_some, slice_set}
+use mathlib.Core.Option.{some}
 use lib.ListN.{get_elem?}
-use Rattle.atomic_table.specs.Table.{State, opening, Splits, Joins, Final, Seen}
+use Rattle.atomic_table.specs.Table.{Splits, Joins}
 use Rattle.atomic_table.proofs.Lists.{at_set, set_else, set_here, at_longer}
-use Rattle.mb_channel.specs.Types.{Home, Homes, Knows, Past}
-use Rattle.mb_channel.specs.Homes.{AllPast, Falls, Fits, IsNone, IsSpent, IsWhole, Keeps, Made, PastFits, Stands}
-use Rattle.mb_channel.specs.Homes.{both, count, counts_less, first_view, is_in, made_by, made_count, newborn_view, out_of, past_count, past_of, rights, spent_view, times}
+use Rattle.mb_channel.specs.Types.{Home, Knows, Past}
+use Rattle.mb_channel.specs.Homes.{AllPast, Fits, IsSpent, Keeps, Made, PastFits, FitsEnd}
+use Rattle.mb_channel.specs.Homes.{both, count, is_in, made_by, newborn_view, past_of}
+use Rattle.mb_channel.specs.Homes.{receives, rights, sends, spent_view, splits_off, tallies, total}
 use Rattle.mb_channel.proofs.Members.{lock_views}
-use Rattle.mb_channel.proofs.Moves.{ended_stay, has_part, not_spent}
-use Rattle.mb_channel.proofs.Freed.{all_homes}
-use Rattle.mb_channel.proofs.Views.{in_none, only, past_append, past_count_append, past_map, size_set, size_snoc, snoc_cases, there, total_set, total_snoc, two_below}
+use Rattle.mb_channel.proofs.Moves.{ended_stay, has_part, not_spent, told_same}
+use Rattle.mb_channel.proofs.Views.{in_none, past_append, past_count_append, past_map, size_set, size_snoc, snoc_cases, there, total_set, total_snoc}
 
-abbrev is_one : ℕ → ℕ → ℕ
-is_one n m = if nat_eq m n then 1 else 0
-
-no_times : {A : Type 0} (n : ℕ) (xs : List A) → n ≡ 0 → times n xs ≡ 0
-no_times n [] e = refl
-no_times n (x ∷ xs) e = let r = no_times n xs e in omega arith
+one_is : (a b : Bool) → a || b ≡ true → (a ≡ true) ⊎ (b ≡ true)
+one_is true b e = inl refl
+one_is false b e = inr e
 
 module _ {T : Type 0} where
+  pub knows_nothing : (hs : List (Home T)) (mark : ℕ) (views : List (Knows T)) (u : Knows T) → u.may_add ≡ false
+      → u.alone ≡ false → u.shut ≡ false → u.last ≡ None → FitsEnd hs mark views u
+  knows_nothing hs mark views u a b c d = record {
+    may_add = λ q. absurd (true≢false (sym q ∙ a));
+    alone = λ q. absurd (true≢false (sym q ∙ b));
+    shut = λ q. absurd (true≢false (sym q ∙ c));
+    last = λ n q. absurd (true≢false (ap is_some (sym q ∙ d)));
+  }
+
   fits_longer : (hs : List (Home T)) (all : List (Made T)) (views : List (Knows T)) (w : Knows T) (j : ℕ)
       (u : Knows T) → Fits hs all views j u → Fits hs all (views ++ w ∷ []) j u
   fits_longer hs all views w j u f = record {
@@ -36,10 +42,11 @@ module _ {T : Type 0} where
         (λ p x. (x.0, x.1, (x.2.0, at_longer views (w ∷ []) p.number x.2.0 x.2.1, x.2.2))) f.ended;
   }
 
-  pub splits : (id : ℕ) (v : Knows T) → 1 < v.rights → Splits Keeps id v (counts_less v) (newborn_view v)
-  splits id v part s k at =
-      let w = counts_less v in
-      let new = newborn_view v in
+  pub splits : (id : ℕ) (v : Knows T) (a b : ℕ) → 1 < v.rights → a ≤ v.sends → b ≤ v.receives
+      → Splits Keeps id v (splits_off a b v) (newborn_view a b v)
+  splits id v a b part some_ some' s k at =
+      let w = splits_off a b v in
+      let new = newborn_view a b v in
       let one : List (Knows T) = slice_set s.views id w in
       let f = k.fits id v at in
       let l = size_set s.views id w in
@@ -70,11 +77,21 @@ module _ {T : Type 0} where
             (x.0, x.1, (x.2.0, set_else s.views id p.number w ne ∙ x.2.1, x.2.2))) g.ended;
       })
       (at_set s.views id j w u e) in
+      let r = total_set rights s.views id v w at in let r' = total_snoc rights one new in
+      let x = total_set sends s.views id v w at in let x' = total_snoc sends one new in
+      let y = total_set receives s.views id v w at in let y' = total_snoc receives one new in
+      let rights' : total rights s.views ≡ total rights (one ++ new ∷ []) = omega arith in
+      let sends' : total sends s.views ≡ total sends (one ++ new ∷ []) = omega arith in
+      let receives' : total receives s.views ≡ total receives (one ++ new ∷ []) = omega arith in
+      let words : tallies s.views k.mark ≡ tallies (one ++ new ∷ []) k.mark =
+      (λ i. rights' i ∷ sends' i ∷ receives' i ∷ k.mark ∷ []) in
+      let tells : (u : Knows T) → FitsEnd k.homes k.mark s.views u → FitsEnd k.homes k.mark (one ++ new ∷ []) u =
+      λ u t. told_same k.homes k.homes k.mark s.views (one ++ new ∷ []) u refl (λ q. sym sends' ∙ q) t in
       record {
         homes = k.homes;
         all = k.all;
-        ends = k.ends;
-        lock = lock_views s k.homes k.ends (one ++ new ∷ [])
+        mark = k.mark;
+        lock = lock_views s k.homes k.mark k.mark s.words (one ++ new ∷ []) (λ lock e. e ∙ ap (λ l. lock ∷ l) words)
             (λ j u e on. ⊎_elim
             (λ there_. ⊎_elim (λ (t : (j ≡ id) × (w ≡ u)). (
               v,
@@ -89,8 +106,25 @@ module _ {T : Type 0} where
             (snoc_cases one new u j e))
             k.lock;
         agrees = k.agrees;
-        rights_ = (let a = total_set rights s.views id v w at in let b = total_snoc rights one new in let r =
-            k.rights_ in omega arith);
+        told = λ j u e. ⊎_elim
+            (λ there_. ⊎_elim
+            (λ (t : (j ≡ id) × (w ≡ u)). subst (λ (z : Knows T). FitsEnd k.homes k.mark (one ++ new ∷ []) z) t.1
+            (let x = tells v (k.told id v at) in record {
+              may_add = x.may_add;
+              alone = x.alone;
+              shut = x.shut;
+              last = x.last;
+            }))
+            (λ (t : (j ≢ id) × (get_elem? s.views j ≡ some u)). tells u (k.told j u t.1))
+            (at_set s.views id j w u there_))
+            (λ (t : (j ≡ length one) × (new ≡ u)). subst (λ (z : Knows T). FitsEnd k.homes k.mark (one ++ new ∷ []) z)
+            t.1 (let x = tells v (k.told id v at) in record {
+              may_add = λ q. absurd (true≢false (sym q));
+              alone = x.alone;
+              shut = x.shut;
+              last = x.last;
+            }))
+            (snoc_cases one new u j e);
         balance = λ g. (let a = total_set (count g) s.views id v w at in let b = total_snoc (count g) one new in
             let r = k.balance g in omega arith);
         crowd = λ m h e. (let a = total_set (is_in m) s.views id v w at in let b = total_snoc (is_in m) one new in
@@ -149,11 +183,22 @@ module _ {T : Type 0} where
         ),
       )
       ) in
+      let r = total_set rights s.views id v (both v w) at in let r' = total_set rights one other w spent_view at2 in
+      let x = total_set sends s.views id v (both v w) at in let x' = total_set sends one other w spent_view at2 in
+      let y = total_set receives s.views id v (both v w) at in
+      let y' = total_set receives one other w spent_view at2 in
+      let rights' : total rights s.views ≡ total rights two = omega arith in
+      let sends' : total sends s.views ≡ total sends two = omega arith in
+      let receives' : total receives s.views ≡ total receives two = omega arith in
+      let words : tallies s.views k.mark ≡ tallies two k.mark =
+      (λ i. rights' i ∷ sends' i ∷ receives' i ∷ k.mark ∷ []) in
+      let tells : (u : Knows T) → FitsEnd k.homes k.mark s.views u → FitsEnd k.homes k.mark two u =
+      λ u t. told_same k.homes k.homes k.mark s.views two u refl (λ q. sym sends' ∙ q) t in
       record {
         homes = k.homes;
         all = k.all;
-        ends = k.ends;
-        lock = lock_views s k.homes k.ends two
+        mark = k.mark;
+        lock = lock_views s k.homes k.mark k.mark s.words two (λ lock e. e ∙ ap (λ l. lock ∷ l) words)
             (λ j u e on. ⊎_elim
             (λ (t : (j ≡ other) × (spent_view ≡ u)). absurd (true≢false (sym on ∙ ap (λ (z : Knows T). z.holds)
             (sym t.1))))
@@ -170,8 +215,20 @@ module _ {T : Type 0} where
             (at_set one other j spent_view u e))
             k.lock;
         agrees = k.agrees;
-        rights_ = (let a = total_set rights s.views id v (both v w) at in let b =
-            total_set rights one other w spent_view at2 in let r = k.rights_ in omega arith);
+        told = λ j u e. ⊎_elim
+            (λ (t : (j ≡ other) × (spent_view ≡ u)). subst (λ (z : Knows T). FitsEnd k.homes k.mark two z) t.1
+            (knows_nothing k.homes k.mark two spent_view refl refl refl refl))
+            (λ (t : (j ≢ other) × (get_elem? one j ≡ some u)). ⊎_elim
+            (λ (q : (j ≡ id) × (both v w ≡ u)). subst (λ (z : Knows T). FitsEnd k.homes k.mark two z) q.1
+            (let x = tells v (k.told id v at) in let y = tells w (k.told other w was) in record {
+              may_add = x.may_add;
+              alone = λ is. ⊎_elim x.alone y.alone (one_is v.alone w.alone is);
+              shut = λ is. ⊎_elim x.shut y.shut (one_is v.shut w.shut is);
+              last = x.last;
+            }))
+            (λ (q : (j ≢ id) × (get_elem? s.views j ≡ some u)). tells u (k.told j u q.1))
+            (at_set s.views id j (both v w) u t.1))
+            (at_set one other j spent_view u e);
         balance = λ m. (
             let a = total_set (count m) s.views id v (both v w) at in let b = total_set
             (count m) one other w spent_view at2 in
@@ -190,7 +247,7 @@ module _ {T : Type 0} where
               falls = tt;
               near = inl refl;
               inside = λ l. absurd (true≢false (sym l));
-              takes = λ _. inl refl;
+              takes = λ _ j lt. absurd (omega arith);
               newborn = λ _. (refl, refl, refl, λ p. absurd (omega arith));
               idle = λ _. (refl, refl);
               ended = tt;
@@ -223,120 +280,3 @@ module _ {T : Type 0} where
             (at_set s.views id j (both v w) u t.1))
             (at_set one other j spent_view u e);
       }
-
-  -- ---- the beginning and the end
-  first_is : (id : ℕ) (v : Knows T) → get_elem? {A = Knows T} (first_view ∷ []) id ≡ some v → v ≡ first_view
-  first_is zero v at = sym (some-injective first_view v at)
-  first_is (suc id) v at = absurd (some-ne-none v (sym at))
-
-  pub opens : (l : Homes T) → l.list.items ≡ [] → l.first ≡ 0 → Keeps (opening (0 ∷ 1 ∷ []) (l ∷ []) first_view)
-  opens l is none_freed = record {
-    homes = [];
-    all = [];
-    ends = 1;
-    lock = inl (
-      l,
-      refl,
-      refl,
-      record { gone = []; all = sym is; number = sym none_freed; freed = tt },
-      λ id v at. ap (λ (z : Knows T). z.holds) (first_is id v at),
-    );
-    agrees = record { here = λ k h at. absurd (some-ne-none h (sym at)); none_behind = λ k _. refl; turn = tt };
-    rights_ = refl;
-    balance = λ f. omega arith;
-    crowd = λ m h e. absurd (some-ne-none h (sym e));
-    fresh = λ n long. refl;
-    fits = λ id v at. subst (λ (z : Knows T). Fits [] [] (first_view ∷ []) id z) (sym (first_is id v at)) record {
-      named = λ l. absurd (true≢false (sym l));
-      falls = tt;
-      near = inl refl;
-      inside = λ l. absurd (true≢false (sym l));
-      takes = λ _. inl refl;
-      newborn = λ _. (refl, refl, refl, λ _. refl);
-      idle = λ z. absurd (omega arith);
-      ended = tt;
-    };
-  }
-
-  none_made : (n : ℕ) (all : List (Made T)) → made_count (is_one n) all ≡ 0 → made_by n all ≡ []
-  none_made n [] e = refl
-  none_made n (m ∷ ms) e = go (nat_eq m.by n) (none_made n ms) e
-    where
-      go : (b : Bool) → (made_count (is_one n) ms ≡ 0 → made_by n ms ≡ []) → (if b then 1 else 0) + made_count
-          (is_one n) ms ≡ 0
-          → (if b then m.visit ∷ made_by n ms else made_by n ms) ≡ []
-      go true rec z = absurd (omega arith)
-      go false rec z = rec (omega arith)
-
-  no_past : (n : ℕ) (ps : List (Past T)) → IsNone n ps → past_count (is_one n) ps ≡ 0
-  no_past n [] a = refl
-  no_past n (p ∷ ps) a = let r = no_past n ps a.1 in
-      let z = no_times (is_one n p.number) p.visits (ap (λ (b : Bool). if b then 1 else 0) (ne_eqb p.number n a.0))
-      in omega arith
-
-  pub knows : (s : State (Homes T) (Knows T)) (k : Keeps s) (id : ℕ) (v : Knows T) → get_elem? s.views id ≡ some v
-      → v.live ≡ true → v.rights ≡ k.ends
-      → IsWhole v k.homes
-  knows s k id v at live every =
-      let f = k.fits id v at in
-      let n = f.named live in
-      let none_else : (g : ℕ → ℕ) (j : ℕ) (u : Knows T) → j ≢ id → get_elem? s.views j ≡ some u → count g u ≡ 0 =
-      λ g j u ne at'. (
-      let t = two_below rights s.views j id u v ne at' at in
-      let r = k.rights_ in
-      let x = k.fits j u at' in
-      let none_left : u.rights ≡ 0 = omega arith in
-      let b = x.newborn (x.idle none_left).0 in
-      let p : times (g u.number) u.visits ≡ 0 = ap (times (g u.number)) b.0 in
-      let q : past_count g u.ended ≡ 0 = ap (past_count g) b.1 in
-      omega arith
-      ) in
-      record {
-        all = k.all;
-        agrees = k.agrees;
-        own = (n.1 ∙ ap (λ i. made_by i k.all) (sym n.0), f.falls);
-        others = past_map (PastFits k.all s.views) (λ p. (p.visits ≡ made_by p.number k.all) × ((b : ℕ)
-            × Falls b p.visits)) v.ended (λ p x. (x.0, x.1)) f.ended;
-        nobody = λ m ne none_. none_made m k.all (
-            let a = only (count (is_one m)) s.views id v at (none_else (is_one m)) in
-            let b = k.balance (is_one m) in
-            let c = no_times (is_one m v.number) v.visits (ap (λ (b : Bool). if b then 1 else 0)
-            (ne_eqb v.number m ne)) in
-            let d = no_past m v.ended none_ in
-            omega arith
-            );
-        empty = λ out. all_homes k.homes (λ h. out_of h ≡ 0) (λ m h e. (
-            let a = only (is_in m) s.views id v at (λ j u ne at'. (
-            let t = two_below rights s.views j id u v ne at' at in
-            let r = k.rights_ in
-            let x = k.fits j u at' in
-            let none_left : u.rights ≡ 0 = omega arith in
-            in_none u m (x.newborn (x.idle none_left).0).2
-            )) in
-            let b = k.crowd m h e in
-            let c = in_none v m out in
-            omega arith
-            ));
-      }
-
-  -- what the last end knows once the channel is over
-  pub closes : (id : ℕ) (v : Knows T) (ws : List ℕ) (xs : List (Homes T)) → Final (Seen Keeps id v) ws xs
-      → v.live ≡ true
-      → (lock ends : ℕ) (l : Homes T) → get_elem? ws 0 ≡ some lock → lock ≡ 0 → get_elem? ws 1 ≡ some ends
-      → ends ≡ v.rights → get_elem? xs 0 ≡ some l
-      → (hs : List (Home T)) × Stands hs l × IsWhole v hs
-  closes id v ws xs fin live lock ends l at0 zero_ at1 every at =
-      let s = fin.0 in let k = fin.1.0 in
-      ⊎_elim
-      (λ free.
-      let here : get_elem? xs 0 ≡ some free.0 = fin.4 0 free.0 (ap (λ x. get_elem? x 0) free.2) in
-      let same : l ≡ free.0 = some-injective l free.0 (sym at ∙ here) in
-      let word : some ends ≡ some k.ends = sym at1 ∙ (ap (λ x. get_elem? x 1) (sym fin.2) ∙ ap
-      (λ x. get_elem? x 1) free.1) in
-      let n : ends ≡ k.ends = some-injective ends k.ends word in
-      (k.homes, subst (λ x. Stands k.homes x) (sym same) free.3, knows s k id v fin.1.1 live (sym every ∙ n)))
-      (λ held.
-      let e : some lock ≡ some 1 = sym at0 ∙ (ap (λ x. get_elem? x 0) (sym fin.2) ∙ ap (λ x. get_elem? x 0) held.1) in
-      let i : lock ≡ 1 = some-injective lock 1 e in
-      absurd (omega arith))
-      k.lock

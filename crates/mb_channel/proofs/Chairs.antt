@@ -1,5 +1,5 @@
 -- What the calls on the list's lock stand on.
-use Rattle.std.proofs.Common.{ℕ, Bool, true, false, List, [], length, sym, refl, ap, subst, inl, inr, ⊎_elim, arith}
+use Rattle.std.proofs.Common.{ℕ, Bool, true, false, true≢false, List, [], length, sym, refl, ap, subst, inl, inr, ⊎_elim, arith}
 use Rattle.std.proofs.Common.{◌≡◌, ◌+◌, ◌<◌, ◌≤◌, ◌⊎◌, ◌∷◌, ◌++◌, ◌∙◌}
 use Rattle.std.specs.Prelude.{IfSome, None, Option, Some, get_or, slice_set}
 use Rattle.mb_segment.specs.Seats.{view_in as pass_view}
@@ -10,10 +10,10 @@ use Rattle.mb_channel.specs.Types.{Arc, Global, Home, Homes, Knows, Pass, Segmen
 use Rattle.atomic_table.specs.Table.{State, rest}
 use Rattle.atomic_table.proofs.Lists.{at_longer}
 use Rattle.mb_channel.specs.Homes.{Agrees, At, Changes, Grows, HasIssued, HasTakenBack, IsBusy, IsIn, IsNew, IsNext}
-use Rattle.mb_channel.specs.Homes.{IsPassOf, Keeps, Longer, Made, MayGive, Sat, Stands, came_back, came_to, is_in, left_segment, out_of, total, unlocked}
-use Rattle.mb_channel.proofs.Moves.{busy_same, ended_stay, grows_same, in_grows, near_grows, next_grows, unlocks}
+use Rattle.mb_channel.specs.Homes.{IsPassOf, IsShut, Keeps, Longer, Made, MayGive, MayLeave, Sat, Stands, came_back, came_to, is_in, left_segment, out_of, sends, total, unlocked}
+use Rattle.mb_channel.proofs.Moves.{AllFitEnd, busy_same, ended_stay, grows_same, in_grows, near_grows, next_grows, still_told, unlocks}
 use Rattle.mb_channel.proofs.Stays.{unlocks_came, unlocks_left}
-use Rattle.mb_channel.proofs.Views.{all_zero, in_else, in_none, made_map, size_snoc, snoc_cases, there}
+use Rattle.mb_channel.proofs.Views.{all_zero, below_total, in_else, in_none, made_map, size_snoc, snoc_cases, there, total_set}
 
 some_is : {A : Type 0} (a b : A) → Some a ≡ Some b → a ≡ b
 some_is {A = A} a b e = ap (λ (o : Option A). Rattle.std.specs.Option.unwrap_or o a) e
@@ -70,14 +70,43 @@ module _ {T : Type 0} where
       ))
       (snoc_cases k.homes q.0 h m (ap (λ x. get_elem? x m) (sym q.2) ∙ e))) l
 
+  -- whoever adds a segment was never told that there will be no more, and nobody was
+  grown_told : (s : State (Homes T) (Knows T)) (k : Keeps s) (id : ℕ) (v : Knows T) (hs : List (Home T))
+      → get_elem? s.views id ≡ some v → v.before ≡ k.homes → MayLeave v hs
+      → AllFitEnd s k id (unlocked v) hs k.mark
+  grown_told s k id v hs at before may = ⊎_elim
+      (λ e. still_told s k id v (unlocked v) hs at (ap length (e ∙ before)) refl (λ q. absurd (true≢false (sym q)))
+      refl refl refl)
+      (λ m.
+      let b = total_set sends s.views id v (unlocked v) at in
+      let low = below_total sends s.views id v at in
+      let some_ = m.0 in
+      let e : total sends (slice_set s.views id (unlocked v)) ≡ total sends s.views = omega arith in
+      let marked = ((k.told id v at).may_add m.1).1 in
+      let no_end : IsShut k.mark s.views → ⊥ = ⊎_elim (λ z. omega arith) (λ z. omega arith) in (
+        (λ j u ne at'. let t = k.told j u at' in record {
+          may_add = t.may_add;
+          alone = λ q. e ∙ t.alone q;
+          shut = t.shut;
+          last = λ n q. absurd (no_end (t.last n q).1);
+        }),
+        (let t = k.told id v at in record {
+          may_add = λ q. absurd (true≢false (sym q));
+          alone = λ q. e ∙ t.alone q;
+          shut = t.shut;
+          last = λ n q. absurd (no_end (t.last n q).1);
+        }),
+      ))
+      may
+
   -- nothing was done, or a segment was added
   pub unlocks_same : (slots id : ℕ) (me : Sat T) (y : Homes T) (hs : List (Home T)) → Stands hs y → me.1 ≡ (0, y) ∷ []
-      → me.0.live ≡ true → me.0.holds ≡ true → Longer me.0.before hs → MayGive (λ v. v) slots id me
-  unlocks_same slots id me y hs stands carried live holds longer = unlocks
-      (λ v. v) slots id me y hs stands carried live holds refl refl
+      → me.0.live ≡ true → me.0.holds ≡ true → MayLeave me.0 hs → MayGive (λ v. v) slots id me
+  unlocks_same slots id me y hs stands carried live holds may = unlocks
+      (λ v. v) slots id me y hs stands carried live holds refl refl refl refl
       (λ s k at part before.
       let f = k.fits id me.0 at in
-      let l : Longer k.homes hs = subst (λ x. Longer x hs) before longer in
+      let l : Longer k.homes hs = subst (λ x. Longer x hs) before (⊎_elim (λ e. inl e) (λ m. m.2) may) in
       let g = grows_longer k.homes hs l in (
         k.all,
         g,
@@ -95,6 +124,7 @@ module _ {T : Type 0} where
           idle = λ z. absurd (omega arith);
           ended = ended_stay s k id me.0 (unlocked me.0) at part k.all (λ n _. refl);
         },
+        grown_told s k id me.0 hs at before may,
       ))
 
   -- a pass of the segment where the end is belongs to the hub there

@@ -83,19 +83,22 @@ module _ {T : Type 0} where
       (s', le, (a.0, at_live hs now k s' le ∙ here, a.2))
 
   -- all segments before the list's first are done
-  pub next_is : (hs : List (Home T)) (l : Homes T) → Stands hs l → 0 < l.first → IsNext hs l.first
-  next_is hs l s some_ =
+  pub next_is : (hs : List (Home T)) (l : Homes T) → Stands hs l → IsNext hs l.first
+  next_is hs l s j lt =
       let number = s.number in
-      let x = some_at s.gone (l.first - 1) (omega arith) in
-      inr (
-        l.first - 1,
-        omega arith,
-        (
-          x.0,
-          ap (λ y. get_elem? y (l.first - 1)) s.all ∙ at_longer s.gone l.list.items (l.first - 1) x.0 x.1,
-          (all_at IsFreed s.gone s.freed (l.first - 1) x.0 x.1).done,
-        ),
+      let x = some_at s.gone j (omega arith) in (
+        x.0,
+        ap (λ y. get_elem? y j) s.all ∙ at_longer s.gone l.list.items j x.0 x.1,
+        (all_at IsFreed s.gone s.freed j x.0 x.1).done,
       )
+
+  -- a place behind the list is behind all
+  pub behind_all : (hs : List (Home T)) (l : Homes T) (k : ℕ) → Stands hs l → l.first ≤ k
+      → length l.list.items ≤ k - l.first → length hs ≤ k
+  behind_all hs l k s le long =
+      let number = s.number in
+      let n = length-append s.gone l.list.items in
+      let e = ap length s.all in omega arith
 
   -- ---- the list changes
   stands_set : (hs : List (Home T)) (l m : Homes T) (k : ℕ) (g : Home T) → Stands hs l → l.first ≤ k

@@ -1,6 +1,7 @@
 mod Accounts
 mod Back
 mod Chairs
+mod Closing
 mod Counts
 mod EndLogs
 mod Ends
@@ -11,8 +12,10 @@ mod LogsTold
 mod Members
 mod Moves
 mod Places
+mod Rests
 mod Stays
 mod Theorems
 mod Turns
 mod Views
 mod Visited
+mod Whole

@@ -9,14 +9,14 @@ use Rattle.mb_segment.specs.History as seg
 use Rattle.mb_segment.specs.Vocabulary.{AllHeed, Heeds, In, IsWhole as IsToldWhole, hub_view}
 use Rattle.mb_channel.specs.Types.{Account, Home, Knows, Position}
 use Rattle.mb_channel.specs.ChannelTheorem.{Spot, left, taken}
-use Rattle.mb_channel.specs.Homes.{AllMade, At, IsDone, IsNext, IsWhole, Made, came_back, made_by, made_in}
+use Rattle.mb_channel.specs.Homes.{AllMade, IsNext, IsWhole, Made, came_back, made_by, made_in}
 use Rattle.mb_channel.specs.Segments.{TakenInTurn, drawn}
 use Rattle.mb_channel.specs.Stays.{AreStays, Stay, Told, log_of, logs_of, moved_by}
-use Rattle.mb_channel.specs.Lives.{DoneInTurn, HaveEnded, HaveLived, all_left, count_sent, end_in, placed, visits_of}
+use Rattle.mb_channel.specs.Lives.{HaveEnded, HaveLived, all_left, count_sent, end_in, placed, visits_of}
 use Rattle.mb_channel.proofs.Accounts.{EachFalls, accounts, accounts_at, claim, entry, made_at, none_got, pos, stay, told}
 use Rattle.mb_channel.proofs.Counts.{drawn_told}
 use Rattle.mb_channel.proofs.Places.{all_rows, at_visit, falls_within, log_here, moved_placed, rows, spots_in, within}
-use Rattle.mb_channel.proofs.Views.{made_map, there}
+use Rattle.mb_channel.proofs.Views.{made_map}
 use Rattle.mb_channel.proofs.Visited.{AllVisits, all_behind, each_falls, made_heed, spots_called, visits_are, visits_made}
 use Rattle.mb_channel.proofs.Theorems.{passes_are_ends}
 
@@ -123,20 +123,16 @@ module _ {T : Type 0} where
   none_taken : (whole : List (Home T)) (k : ℕ) (all : List (Made T)) (each : EachFalls all) (hs : List (Home T))
       (ls : List (List T)) (agree : Agree k all hs) (ended : HaveEnded hs ls)
       → AllMade (λ m. (m.visit.account.got ≡ []) ⊎ IsNext whole m.visit.segment) all
-      → ((j : ℕ) → get_elem? whole (k + j) ≡ get_elem? hs j) → 0 < k
-      → ((j : ℕ) → k ≤ suc j → suc j < length whole → At whole j IsDone → ⊥)
+      → ((m : ℕ) → k ≤ m → IsNext whole m → ⊥)
       → taken (map (λ t. t.history) (tolds k all each hs ls agree ended)) ≡ []
-  none_taken whole k all each [] ls agree ended turn here pos_ not_done = refl
-  none_taken whole k all each (h ∷ hs) [] agree ended turn here pos_ not_done = refl
-  none_taken whole k all each (h ∷ hs) (l ∷ ls) agree ended turn here pos_ not_done =
+  none_taken whole k all each [] ls agree ended turn none_next = refl
+  none_taken whole k all each (h ∷ hs) [] agree ended turn none_next = refl
+  none_taken whole k all each (h ∷ hs) (l ∷ ls) agree ended turn none_next =
       let w = whole_here k all h hs l agree ended.0 in
-      let low = there whole (k + 0) h (here 0) in
-      let not_next : IsNext whole k → ⊥ = ⊎_elim (λ e. omega arith)
-      (λ d. let e = d.1 in not_done d.0 (omega arith) (omega arith) d.2) in
-      let none_ = no_claims (accounts (made_at k all)) l w (got_none whole k all turn not_next) in
+      let got = got_none whole k all turn (none_next k (omega arith)) in
+      let none_ = no_claims (accounts (made_at k all)) l w got in
       λ i. map claim (none_ i) ++ none_taken whole (suc k) all each hs ls (agree_behind k all h hs agree) ended.2 turn
-      (λ j. let z : suc k + j ≡ k + suc j = omega arith in ap (get_elem? whole) z ∙ here (suc j)) (omega arith)
-      (λ j le. not_done j (omega arith)) i
+      (λ m le. none_next m (omega arith)) i
 
   no_values : (es : List (seg.Entry T)) → seg.values es ≡ [] → map entry es ≡ []
   no_values [] e = refl
@@ -145,13 +141,13 @@ module _ {T : Type 0} where
   turn_rows : (whole : List (Home T)) (k : ℕ) (all : List (Made T)) (each : EachFalls all) (hs : List (Home T))
       (ls : List (List T)) (agree : Agree k all hs) (ended : HaveEnded hs ls)
       → AllMade (λ m. (m.visit.account.got ≡ []) ⊎ IsNext whole m.visit.segment) all
-      → ((j : ℕ) → get_elem? whole (k + j) ≡ get_elem? hs j) → DoneInTurn whole
+      → ((j : ℕ) → get_elem? whole (k + j) ≡ get_elem? hs j)
       → TakenInTurn (map (λ t. t.history) (tolds k all each hs ls agree ended))
-  turn_rows whole k all each [] ls agree ended turn here done = tt
-  turn_rows whole k all each (h ∷ hs) [] agree ended turn here done = absurd ended
-  turn_rows whole k all each (h ∷ hs) (l ∷ ls) agree ended turn here done = (
+  turn_rows whole k all each [] ls agree ended turn here = tt
+  turn_rows whole k all each (h ∷ hs) [] agree ended turn here = absurd ended
+  turn_rows whole k all each (h ∷ hs) (l ∷ ls) agree ended turn here = (
     go (hub_view h.hub).over refl,
-    turn_rows whole (suc k) all each hs ls behind ended.2 turn here_behind done,
+    turn_rows whole (suc k) all each hs ls behind ended.2 turn here_behind,
   )
     where
       here_behind : (j : ℕ) → get_elem? whole (suc k + j) ≡ get_elem? hs j
@@ -167,8 +163,8 @@ module _ {T : Type 0} where
           → (map entry w.history.rest ≡ [])
           ⊎ (taken (map (λ t. t.history) (tolds (suc k) all each hs ls behind ended.2)) ≡ [])
       go true is = inl (no_values w.history.rest (sym w.left_is ∙ ended.1 is))
-      go false is = inr (none_taken whole (suc k) all each hs ls behind ended.2 turn here_behind (omega arith)
-          (λ j le lt at. let d = done k j (omega arith) lt at in let z : k ≡ k + 0 = omega arith in
+      go false is = inr (none_taken whole (suc k) all each hs ls behind ended.2 turn
+          (λ m le next. let d = next k (omega arith) in let z : k ≡ k + 0 = omega arith in
           let same = some-injective d.0 h (sym d.1 ∙ ap (get_elem? whole) z ∙ here 0) in
           true≢false (sym d.2 ∙ ap (λ (x : Home T). (hub_view x.hub).over) same ∙ is)))
 
@@ -209,8 +205,8 @@ module _ {T : Type 0} where
       ∙ sym (logs_rows f g same n 0 0 w.all each hs ls agree ended)
 
   pub have_lived : (v : Knows T) (hs : List (Home T)) (ls : List (List T)) → IsWhole v hs → HaveEnded hs ls
-      → DoneInTurn hs → HaveLived (end_in v hs) (all_left ls)
-  have_lived v hs ls w ended done =
+      → HaveLived (end_in v hs) (all_left ls)
+  have_lived v hs ls w ended =
       let each = each_falls v hs w in
       let agree : Agree 0 w.all hs = λ j h at. (let z : j ≡ 0 + j = omega arith in
       w.agrees.here j h at ∙ ap (λ i. made_in i w.all) z) in
@@ -235,6 +231,6 @@ module _ {T : Type 0} where
         later = λ n. all_behind (λ a. a.got) (λ a. a.got_knew) hs (visits_of n v) (got n);
         rest = left_rows 0 w.all each hs ls agree ended;
         turn = turn_rows hs 0 w.all each hs ls agree ended w.agrees.turn
-            (λ j. let z : 0 + j ≡ j = omega arith in ap (get_elem? hs) z) done;
+            (λ j. let z : 0 + j ≡ j = omega arith in ap (get_elem? hs) z);
       } in
       (ts, a, passes_are_ends ts (end_in v hs) (all_left ls) a)

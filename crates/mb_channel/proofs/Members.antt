@@ -1,6 +1,6 @@
--- Ends are made, numbered, counted and given back.
-use Rattle.std.proofs.Common.{ℕ, true, false, true≢false, List, sym, refl, ap, subst, inl, inr, ⊎_elim, arith}
-use Rattle.std.proofs.Common.{◌≡◌, ◌≢◌, ◌+◌, ◌<◌, ◌⊎◌, ◌∙◌}
+-- Ends are numbered, and the numbers of ends, senders and receivers change.
+use Rattle.std.proofs.Common.{ℕ, zero, suc, Bool, true, false, true≢false, List, [], nat_eq, sym, refl, ap, subst, inl, inr, ⊎_elim, arith, eqb-true}
+use Rattle.std.proofs.Common.{◌≡◌, ◌≢◌, ◌+◌, ◌-◌, ◌<◌, ◌⊎◌, ◌∷◌, ◌∙◌}
 use Rattle.std.specs.Prelude.{◌==◌, slice_set, slice_index}
 use mathlib.Core.Option.{some, none}
 use lib.ListN.{get_elem?}
@@ -9,27 +9,31 @@ use Rattle.atomic_table.specs.Table.{State, Act, keeps, step, stepped, Allows, V
 use Rattle.atomic_table.proofs.Lists.{exchanged, set_again, at_set}
 use Rattle.mb_channel.specs.Types.{Home, Homes, Knows}
 use Rattle.mb_channel.specs.Homes.{IsFree, IsHeld, Keeps, Sat}
-use Rattle.mb_channel.specs.Homes.{counting, counts_more, gets_number}
+use Rattle.mb_channel.specs.Homes.{counts_more, gets_number, receives, rights, sends, tallies, total}
+use Rattle.mb_channel.specs.Tallies.{counting, hires_receiver, hires_sender, retires_receiver, retires_sender}
 use Rattle.mb_channel.specs.Homes.{is_in, times}
-use Rattle.mb_channel.proofs.Moves.{busy_same, ended_stay, grows_same, has_part, moved, stays_word}
-use Rattle.mb_channel.proofs.Views.{not_true}
+use Rattle.mb_channel.proofs.Moves.{AllFitEnd, busy_same, ended_stay, grows_same, has_part, moved, tallies_set, stays_word, still_told, told_same}
+use Rattle.mb_channel.proofs.Views.{below_total, not_true, total_set}
+
+pub set_same : (l : List ℕ) (i : ℕ) → slice_set l i (slice_index l i) ≡ l
+set_same [] i = refl
+set_same (x ∷ xs) zero = refl
+set_same (x ∷ xs) (suc i) = ap (λ l. x ∷ l) (set_same xs i)
 
 module _ {T : Type 0} where
   -- a lock is as free or as held as before, if the views that were there hold as much
-  pub lock_views : (s : State (Homes T) (Knows T)) (hs : List (Home T)) (n : ℕ) (views : List (Knows T))
+  pub lock_views : (s : State (Homes T) (Knows T)) (hs : List (Home T)) (m n : ℕ) (words : List ℕ)
+      (views : List (Knows T))
+      → ((lock : ℕ) → s.words ≡ lock ∷ tallies s.views m → words ≡ lock ∷ tallies views n)
       → ((j : ℕ) (u : Knows T) → get_elem? views j ≡ some u → u.holds ≡ true → (w : Knows T)
       × (get_elem? s.views j ≡ some w) × (w.holds ≡ true) × (w.before ≡ u.before))
-      → IsFree s hs n ⊎ IsHeld s hs n
-      → IsFree record { words = s.words; homes = s.homes; views = views } hs n ⊎ IsHeld record {
-        words =
-            s.words;
-        homes = s.homes;
-        views = views;
-      } hs n
-  lock_views s hs n views was lock = ⊎_elim
+      → IsFree s hs m ⊎ IsHeld s hs m
+      → IsFree record { words = words; homes = s.homes; views = views } hs n
+      ⊎ IsHeld record { words = words; homes = s.homes; views = views } hs n
+  lock_views s hs m n words views same was lock = ⊎_elim
       (λ free. inl (
         free.0,
-        free.1,
+        same 0 free.1,
         free.2,
         free.3,
         λ j u at. not_true u.holds (λ on. let w = was j u at on
@@ -37,7 +41,7 @@ module _ {T : Type 0} where
       ))
       (λ held. inr (
         held.0,
-        held.1,
+        same 1 held.1,
         held.2,
         λ j u at on. let w = was j u at on in let x = held.3 j w.0 w.1 w.2 in
             (x.0, sym w.3 ∙ x.1),
@@ -45,12 +49,13 @@ module _ {T : Type 0} where
       lock
 
   -- the same where a step changed one view, which holds as much
-  lock_view : (s : State (Homes T) (Knows T)) (hs : List (Home T)) (n id : ℕ) (v w : Knows T)
-      → get_elem? s.views id ≡ some v → w.holds ≡ v.holds → w.before ≡ v.before
-      → IsFree s hs n ⊎ IsHeld s hs n
-      → IsFree record { words = s.words; homes = s.homes; views = slice_set s.views id w } hs n
-      ⊎ IsHeld record { words = s.words; homes = s.homes; views = slice_set s.views id w } hs n
-  lock_view s hs n id v w at holds before = lock_views s hs n (slice_set s.views id w)
+  pub lock_view : (s : State (Homes T) (Knows T)) (hs : List (Home T)) (m n : ℕ) (words : List ℕ) (id : ℕ)
+      (v w : Knows T) → get_elem? s.views id ≡ some v → w.holds ≡ v.holds → w.before ≡ v.before
+      → ((lock : ℕ) → s.words ≡ lock ∷ tallies s.views m → words ≡ lock ∷ tallies (slice_set s.views id w) n)
+      → IsFree s hs m ⊎ IsHeld s hs m
+      → IsFree record { words = words; homes = s.homes; views = slice_set s.views id w } hs n
+      ⊎ IsHeld record { words = words; homes = s.homes; views = slice_set s.views id w } hs n
+  lock_view s hs m n words id v w at holds before same = lock_views s hs m n words (slice_set s.views id w) same
       (λ j u e on. ⊎_elim
       (λ (t : (j ≡ id) × (w ≡ u)). (
         v,
@@ -60,6 +65,11 @@ module _ {T : Type 0} where
         sym before ∙ ap (λ (z : Knows T). z.before) t.1,
       ))
       (λ (t : (j ≢ id) × (get_elem? s.views j ≡ some u)). (u, t.1, on, refl)) (at_set s.views id j w u e))
+
+  pub tallies_stay : (s : State (Homes T) (Knows T)) (mark id : ℕ) (v w : Knows T) → get_elem? s.views id ≡ some v
+      → w.rights ≡ v.rights → w.sends ≡ v.sends → w.receives ≡ v.receives
+      → (lock : ℕ) → s.words ≡ lock ∷ tallies s.views mark → s.words ≡ lock ∷ tallies (slice_set s.views id w) mark
+  tallies_stay s mark id v w at a b c lock e = e ∙ ap (λ l. lock ∷ l) (sym (tallies_set s.views id v w mark at a b c))
 
   pub numbers : (slots id : ℕ) (me : Sat T) → me.0.live ≡ false → 0 < me.0.rights
       → Allows Keeps slots id me 0 (λ n. n) (gets_number (step slots 0 0 0 none) me)
@@ -74,7 +84,7 @@ module _ {T : Type 0} where
         tt,
         subst (λ (z : List ℕ). Keeps record { words = z; homes = s.homes; views = slice_set s.views id w }) (sym
             (stays_word s k (slice_index s.words 0) refl))
-            (moved s k id v w at part k.homes k.all k.ends (grows_same k.homes) k.agrees (λ n _. refl) refl
+            (moved s k id v w at part k.homes k.all k.mark (grows_same k.homes) k.agrees (λ n _. refl)
             (λ g. let x : times (g id) v.visits ≡ 0 = ap (times (g id)) b.0 in let y : times
             (g v.number) v.visits ≡ 0 = ap (times (g v.number)) b.0 in omega arith)
             (λ m h e. busy_same s k m (is_in m v) h e)
@@ -88,62 +98,189 @@ module _ {T : Type 0} where
               idle = λ z. absurd (omega arith);
               ended = ended_stay s k id v w at part k.all (λ n _. refl);
             }
-            s.words s.homes (lock_view s k.homes k.ends id v w at refl refl k.lock)),
+            (still_told s k id v w k.homes at refl refl (k.told id v at).may_add refl refl refl)
+            s.words s.homes (lock_view s k.homes k.mark k.mark s.words id v w at refl refl
+            (tallies_stay s k.mark id v w at refl refl refl) k.lock)),
         (id, refl),
       )
 
-  -- ---- an end counts for one more
-  more_words : (s : State (Homes T) (Knows T)) (hs : List (Home T)) (n m id : ℕ) (v w : Knows T)
-      → get_elem? s.views id ≡ some v → w.holds ≡ v.holds → w.before ≡ v.before
-      → IsFree s hs n ⊎ IsHeld s hs n
-      → IsFree record { words = slice_set s.words 1 m; homes = s.homes; views = slice_set s.views id w } hs m
-      ⊎ IsHeld record { words = slice_set s.words 1 m; homes = s.homes; views = slice_set s.views id w } hs m
-  more_words s hs n m id v w at holds before lock = ⊎_elim
-      (λ free. inl (free.0, ap (λ l. slice_set l 1 m) free.1, free.2, free.3, free.4))
-      (λ held. inr (held.0, ap (λ l. slice_set l 1 m) held.1, held.2, held.3))
-      (lock_view s hs n id v w at holds before lock)
+  -- ---- an end counts for one more, or for one less
+  pub unchanged : (s : State (Homes T) (Knows T)) (k : Keeps s) (id i : ℕ) (v : Knows T) → get_elem? s.views id ≡ some v
+      → Keeps record {
+        words = slice_set s.words i (slice_index s.words i);
+        homes = s.homes;
+        views = slice_set s.views id v;
+      }
+  unchanged s k id i v at = let ws = set_same s.words i in let vs = set_again s.views id v at in
+      subst (λ (z : List ℕ × List (Knows T)). Keeps record { words = z.0; homes = s.homes; views = z.1 })
+      (λ i. (sym ws i, sym vs i)) k
 
-  ends_word : (s : State (Homes T) (Knows T)) (hs : List (Home T)) (n : ℕ) → IsFree s hs n ⊎ IsHeld s hs n
-      → (slice_index s.words 1 ≡ n) × (slice_set s.words 1 (slice_index s.words 1) ≡ s.words)
-  ends_word s hs n lock = ⊎_elim
-      (λ x. (ap (λ l. slice_index l 1) x.1, ap (λ l. slice_set l 1 (slice_index l 1)) x.1 ∙ sym x.1))
-      (λ x. (ap (λ l. slice_index l 1) x.1, ap (λ l. slice_set l 1 (slice_index l 1)) x.1 ∙ sym x.1)) lock
+  abbrev recounted : ℕ → ℕ → ℕ → Bool → Knows T → Knows T
+  recounted a b c d v = record v { rights = a; sends = b; receives = c; alone = d }
 
-  pub adds : (slots id seen new : ℕ) (me : Sat T) → me.0.live ≡ true → new ≡ seen + 1
-      → Allows Keeps slots id me 1 (λ n. either (n == seen) new n) (counting (step slots 1 seen new none) me)
-  adds slots id seen new me live one s k len at small =
+  -- what a step on a number owes
+  abbrev Recounts : (i seen new : ℕ) (id : ℕ) (v w : Knows T) → Type 0
+  Recounts i seen new id v w = (s : State (Homes T) (Knows T)) (k : Keeps s) → get_elem? s.views id ≡ some v
+      → slice_index s.words i ≡ seen
+      → ((lock : ℕ) → s.words ≡ lock ∷ tallies s.views k.mark
+      → slice_set s.words i new ≡ lock ∷ tallies (slice_set s.views id w) k.mark) × AllFitEnd s k id w k.homes k.mark
+
+  recounts : (slots id i seen new a b c : ℕ) (d : Bool) (f : ℕ → Knows T → Knows T) (me : Sat T) → me.0.live ≡ true
+      → 0 < a → recounted a b c d me.0 ≡ f seen me.0 → Recounts i seen new id me.0 (recounted a b c d me.0)
+      → Allows Keeps slots id me i (λ n. either (n == seen) new n) (counting f (step slots i seen new none) me)
+  recounts slots id i seen new a b c d f me live some_ is owes s k len at small =
       let v = me.0 in
-      let w = counts_more v in
-      let f = k.fits id v at in
-      let part = has_part k.homes k.all s.views id v f live in
-      let word = ends_word s k.homes k.ends k.lock in
-      exchanged (slice_index s.words 1) seen new
-      (λ m. (w : Knows T) × (a : Act (Homes T)) × Valid s.homes me.1 a × Keeps (stepped s 1 m id me.1 w a)
-      × counting (step slots 1 seen new none) me (slice_index s.words 1) (w, carried_after me.1 a))
-      (λ e. (
+      let w = recounted a b c d v in
+      let x = k.fits id v at in
+      let part = has_part k.homes k.all s.views id v x live in
+      exchanged (slice_index s.words i) seen new
+      (λ m. (w : Knows T) × (a : Act (Homes T)) × Valid s.homes me.1 a × Keeps (stepped s i m id me.1 w a)
+      × counting f (step slots i seen new none) me (slice_index s.words i) (w, carried_after me.1 a))
+      (λ e. let o = owes s k at e in (
         w,
         keeps,
         tt,
-        moved s k id v w at part k.homes k.all new (grows_same k.homes) k.agrees (λ n _. refl) (let x = word.0
-            in omega arith) (λ g. omega arith) (λ m h e. busy_same s k m (is_in m v) h e)
+        moved s k id v w at part k.homes k.all k.mark (grows_same k.homes) k.agrees (λ n _. refl)
+            (λ g. omega arith) (λ m h e. busy_same s k m (is_in m v) h e)
             record {
-              named = f.named;
-              falls = f.falls;
-              near = f.near;
-              inside = f.inside;
-              takes = f.takes;
-              newborn = λ l. let x = f.newborn l in (x.0, x.1, x.2, λ _. x.3 part);
+              named = x.named;
+              falls = x.falls;
+              near = x.near;
+              inside = x.inside;
+              takes = x.takes;
+              newborn = λ l. absurd (true≢false (sym live ∙ l));
               idle = λ z. absurd (omega arith);
               ended = ended_stay s k id v w at part k.all (λ n _. refl);
             }
-            (slice_set s.words 1 new) s.homes (more_words s k.homes k.ends new id v w at refl refl k.lock),
-        (refl, (λ _. refl), λ ne. absurd (ne e)),
+            o.1 (slice_set s.words i new) s.homes
+            (lock_view s k.homes k.mark k.mark (slice_set s.words i new) id v w at refl refl o.0 k.lock),
+        (refl, (λ q. is ∙ ap (λ r. f r v) (sym q)), λ ne. absurd (ne e)),
       ))
       (λ ne. (
         v,
         keeps,
         tt,
-        subst (λ (z : List ℕ × List (Knows T)). Keeps record { words = z.0; homes = s.homes; views = z.1 })
-            (λ i. (sym word.1 i, sym (set_again s.views id v at) i)) k,
+        unchanged s k id i v at,
         (refl, (λ e. absurd (ne e)), λ _. refl),
       ))
+
+  -- if no sender was left, none is
+  tell_on : (s : State (Homes T) (Knows T)) (k : Keeps s) (id : ℕ) (v : Knows T) (a b c : ℕ) (d : Bool)
+      → get_elem? s.views id ≡ some v
+      → (total sends s.views ≡ 0 → total sends (slice_set s.views id (recounted a b c d v)) ≡ 0)
+      → (d ≡ true → total sends (slice_set s.views id (recounted a b c d v)) ≡ 0)
+      → AllFitEnd s k id (recounted a b c d v) k.homes k.mark
+  tell_on s k id v a b c d at none_left alone =
+      let w = recounted a b c d v in
+      let t = told_same k.homes k.homes k.mark s.views (slice_set s.views id w) v refl none_left (k.told id v at) in (
+        λ j u ne at'. told_same k.homes k.homes k.mark s.views (slice_set s.views id w) u refl none_left
+            (k.told j u at'),
+        record { may_add = t.may_add; alone = alone; shut = t.shut; last = t.last },
+      )
+
+  pub senders_word : (s : State (Homes T) (Knows T)) (k : Keeps s) → slice_index s.words 2 ≡ total sends s.views
+  senders_word s k = ⊎_elim (λ x. ap (λ l. slice_index l 2) x.1) (λ x. ap (λ l. slice_index l 2) x.1) k.lock
+
+  pub mark_word : (s : State (Homes T) (Knows T)) (k : Keeps s) → slice_index s.words 4 ≡ k.mark
+  mark_word s k = ⊎_elim (λ x. ap (λ l. slice_index l 4) x.1) (λ x. ap (λ l. slice_index l 4) x.1) k.lock
+
+  receivers_owe : (seen new id : ℕ) (v : Knows T) (c : ℕ) → ((t u : ℕ) → u + v.receives ≡ t + c → seen ≡ t → new ≡ u)
+      → Recounts 3 seen new id v (recounted v.rights v.sends c v.alone v)
+  receivers_owe seen new id v c is_new s k at is =
+      let w = recounted v.rights v.sends c v.alone v in
+      let a = total_set rights s.views id v w at in
+      let b = total_set sends s.views id v w at in
+      let r = total_set receives s.views id v w at in
+      let y : total rights s.views ≡ total rights (slice_set s.views id w) = omega arith in
+      let same : total sends (slice_set s.views id w) ≡ total sends s.views = omega arith in (
+        λ lock e. (
+            let n : seen ≡ total receives s.views = sym is ∙ ap (λ l. slice_index l 3) e in
+            let x = is_new (total receives s.views) (total receives (slice_set s.views id w)) r n in
+            ap (λ l. slice_set l 3 new) e ∙ (λ i. lock ∷ y i ∷ sym same i ∷ x i ∷ k.mark ∷ [])
+            ),
+        tell_on s k id v v.rights v.sends c v.alone at (λ q. same ∙ q) (λ q. same ∙ (k.told id v at).alone q),
+      )
+
+  pub adds : (slots id seen new : ℕ) (me : Sat T) → me.0.live ≡ true → new ≡ seen + 1
+      → Allows Keeps slots id me 1 (λ n. either (n == seen) new n)
+      (counting (λ _. counts_more) (step slots 1 seen new none) me)
+  adds slots id seen new me live one = let v = me.0 in
+      recounts slots id 1 seen new (v.rights + 1) v.sends v.receives v.alone (λ _. counts_more) me live (omega arith)
+      refl (λ s k at is.
+      let w = counts_more v in
+      let a = total_set rights s.views id v w at in
+      let b = total_set sends s.views id v w at in
+      let c = total_set receives s.views id v w at in
+      let same : total sends (slice_set s.views id w) ≡ total sends s.views = omega arith in
+      let z : total receives s.views ≡ total receives (slice_set s.views id w) = omega arith in (
+        λ lock e. (
+            let n = sym (ap (λ l. slice_index l 1) e) ∙ is in
+            let x : new ≡ total rights (slice_set s.views id w) = omega arith in
+            ap (λ l. slice_set l 1 new) e ∙ (λ i. lock ∷ x i ∷ sym same i ∷ z i ∷ k.mark ∷ [])
+            ),
+        tell_on s k id v (v.rights + 1) v.sends v.receives v.alone at (λ q. same ∙ q)
+            (λ q. same ∙ (k.told id v at).alone q),
+      ))
+
+  pub hires_one : (slots id seen new : ℕ) (me : Sat T) → me.0.live ≡ true → 0 < me.0.sends → new ≡ seen + 1
+      → Allows Keeps slots id me 2 (λ n. either (n == seen) new n)
+      (counting (λ _. hires_sender) (step slots 2 seen new none) me)
+  hires_one slots id seen new me live some_ one s k len at small = let v = me.0 in
+      let part = has_part k.homes k.all s.views id v (k.fits id v at) live in
+      recounts slots id 2 seen new v.rights (v.sends + 1) v.receives v.alone (λ _. hires_sender) me live part refl
+      (λ s k at is.
+      let w = hires_sender v in
+      let a = total_set rights s.views id v w at in
+      let b = total_set sends s.views id v w at in
+      let c = total_set receives s.views id v w at in
+      let y : total rights s.views ≡ total rights (slice_set s.views id w) = omega arith in
+      let z : total receives s.views ≡ total receives (slice_set s.views id w) = omega arith in
+      let low = below_total sends s.views id v at in (
+        λ lock e. (
+            let n = sym (ap (λ l. slice_index l 2) e) ∙ is in
+            let x : new ≡ total sends (slice_set s.views id w) = omega arith in
+            ap (λ l. slice_set l 2 new) e ∙ (λ i. lock ∷ y i ∷ x i ∷ z i ∷ k.mark ∷ [])
+            ),
+        tell_on s k id v v.rights (v.sends + 1) v.receives v.alone at (λ q. absurd (omega arith))
+            (λ q. let e = (k.told id v at).alone q in absurd (omega arith)),
+      )) s k len at small
+
+  pub retires_one : (slots id seen new : ℕ) (me : Sat T) → me.0.live ≡ true → 0 < me.0.sends → seen ≡ new + 1
+      → Allows Keeps slots id me 2 (λ n. either (n == seen) new n)
+      (counting (λ r. retires_sender (nat_eq r 1)) (step slots 2 seen new none) me)
+  retires_one slots id seen new me live some_ one s k len at small = let v = me.0 in
+      let part = has_part k.homes k.all s.views id v (k.fits id v at) live in
+      recounts slots id 2 seen new v.rights (v.sends - 1) v.receives (nat_eq seen 1)
+      (λ r. retires_sender (nat_eq r 1)) me live part refl
+      (λ s k at is.
+      let w = retires_sender (nat_eq seen 1) v in
+      let a = total_set rights s.views id v w at in
+      let b = total_set sends s.views id v w at in
+      let c = total_set receives s.views id v w at in
+      let y : total rights s.views ≡ total rights (slice_set s.views id w) = omega arith in
+      let z : total receives s.views ≡ total receives (slice_set s.views id w) = omega arith in
+      let word : slice_index s.words 2 ≡ total sends s.views = senders_word s k in (
+        λ lock e. (
+            let x : new ≡ total sends (slice_set s.views id w) = omega arith in
+            ap (λ l. slice_set l 2 new) e ∙ (λ i. lock ∷ y i ∷ x i ∷ z i ∷ k.mark ∷ [])
+            ),
+        tell_on s k id v v.rights (v.sends - 1) v.receives (nat_eq seen 1) at (λ q. omega arith)
+            (λ q. let e = eqb-true seen 1 q in omega arith),
+      )) s k len at small
+
+  -- the same for receivers
+  pub hires_other : (slots id seen new : ℕ) (me : Sat T) → me.0.live ≡ true → 0 < me.0.receives → new ≡ seen + 1
+      → Allows Keeps slots id me 3 (λ n. either (n == seen) new n)
+      (counting (λ _. hires_receiver) (step slots 3 seen new none) me)
+  hires_other slots id seen new me live some_ one s k len at small = let v = me.0 in
+      let part = has_part k.homes k.all s.views id v (k.fits id v at) live in
+      recounts slots id 3 seen new v.rights v.sends (v.receives + 1) v.alone (λ _. hires_receiver) me live part refl
+      (receivers_owe seen new id v (v.receives + 1) (λ t u e n. omega arith)) s k len at small
+
+  pub retires_other : (slots id seen new : ℕ) (me : Sat T) → me.0.live ≡ true → 0 < me.0.receives → seen ≡ new + 1
+      → Allows Keeps slots id me 3 (λ n. either (n == seen) new n)
+      (counting (λ _. retires_receiver) (step slots 3 seen new none) me)
+  retires_other slots id seen new me live some_ one s k len at small = let v = me.0 in
+      let part = has_part k.homes k.all s.views id v (k.fits id v at) live in
+      recounts slots id 3 seen new v.rights v.sends (v.receives - 1) v.alone (λ _. retires_receiver) me live part refl
+      (receivers_owe seen new id v (v.receives - 1) (λ t u e n. omega arith)) s k len at small

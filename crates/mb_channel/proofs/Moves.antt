@@ -1,5 +1,5 @@
 -- Each step keeps the rule of the list.
-use Rattle.std.proofs.Common.{ℕ, zero, suc, true, false, true≢false, List, [], sym, refl, ap, subst, inl, inr, ⊎_elim, arith}
+use Rattle.std.proofs.Common.{ℕ, zero, suc, true, false, true≢false, List, [], length, sym, refl, ap, subst, inl, inr, ⊎_elim, arith}
 use Rattle.std.proofs.Common.{◌≡◌, ◌≢◌, ◌+◌, ◌<◌, ◌⊎◌, ◌∷◌, ◌∙◌}
 use Rattle.std.specs.Prelude.{◌==◌, slice_set, slice_index}
 use mathlib.Core.Option as maybe
@@ -9,8 +9,8 @@ use prog.Atomic.{either}
 use Rattle.atomic_table.specs.Table.{State, Act, keeps, takes, gives, step, stepped, Allows, Valid, carried_after, homes_after, put_back, rest}
 use Rattle.atomic_table.proofs.Lists.{exchanged, set_again, at_set, set_else}
 use Rattle.mb_channel.specs.Types.{Home, Homes, Knows, Past, arc_value}
-use Rattle.mb_channel.specs.Homes.{Agrees, AllPast, Fits, Grows, IsBusy, IsFree, IsHeld, IsIn, IsNear, IsNext, Keeps, Made, MayGive, PastFits, Sat, IsSpent, Stands}
-use Rattle.mb_channel.specs.Homes.{count, is_in, locked, made_by, made_count, out_of, rights, takes_lock, total, unlocked}
+use Rattle.mb_channel.specs.Homes.{Agrees, AllPast, Fits, Grows, IsBusy, IsFree, IsHeld, IsIn, IsNear, IsNext, Keeps, Made, MayGive, PastFits, Sat, IsSpent, Stands, FitsEnd}
+use Rattle.mb_channel.specs.Homes.{count, is_in, locked, made_by, made_count, tallies, out_of, receives, rights, sends, takes_lock, total, unlocked}
 use Rattle.mb_channel.proofs.Views.{below_total, in_here, not_true, past_map, size_set, there, total_set}
 
 module _ {T : Type 0} where
@@ -21,8 +21,7 @@ module _ {T : Type 0} where
   grows_same hs k h at = (h, at, (refl, λ d. d))
 
   pub next_grows : (hs gs : List (Home T)) → Grows hs gs → (k : ℕ) → IsNext hs k → IsNext gs k
-  next_grows hs gs grows k is = ⊎_elim (λ e. inl e)
-      (λ n. let a = n.2 in let g = grows n.0 a.0 a.1 in inr (n.0, n.1, (g.0, g.1, g.2.1 a.2))) is
+  next_grows hs gs grows k is j lt = let a = is j lt in let g = grows j a.0 a.1 in (g.0, g.1, g.2.1 a.2)
 
   pub near_grows : (hs gs : List (Home T)) → Grows hs gs → (k : ℕ) → IsNear hs k → IsNear gs k
   near_grows hs gs grows k is = ⊎_elim (λ e. inl e)
@@ -49,25 +48,69 @@ module _ {T : Type 0} where
       let ne = not_spent views id v at part p.number x.2 in
       (x.0 ∙ sym (same p.number ne), x.1, (x.2.0, set_else views id p.number w ne ∙ x.2.1, x.2.2))
 
+  -- ---- the tallies, and what views say of them
+  pub tallies_set : (views : List (Knows T)) (id : ℕ) (v w : Knows T) (mark : ℕ) → get_elem? views id ≡ some v
+      → w.rights ≡ v.rights → w.sends ≡ v.sends → w.receives ≡ v.receives
+      → tallies (slice_set views id w) mark ≡ tallies views mark
+  tallies_set views id v w mark at same same' same'' =
+      let a = total_set rights views id v w at in
+      let b = total_set sends views id v w at in
+      let c = total_set receives views id v w at in
+      let x : total rights (slice_set views id w) ≡ total rights views = omega arith in
+      let y : total sends (slice_set views id w) ≡ total sends views = omega arith in
+      let z : total receives (slice_set views id w) ≡ total receives views = omega arith in
+      λ i. x i ∷ y i ∷ z i ∷ mark ∷ []
+
+  pub told_same : (hs gs : List (Home T)) (mark : ℕ) (views ws : List (Knows T)) (u : Knows T)
+      → length gs ≡ length hs → (total sends views ≡ 0 → total sends ws ≡ 0) → FitsEnd hs mark views u
+      → FitsEnd gs mark ws u
+  told_same hs gs mark views ws u size none_left t = record {
+    may_add = t.may_add;
+    alone = λ q. none_left (t.alone q);
+    shut = t.shut;
+    last = λ n q. let x = t.last n q in (size ∙ x.0, ⊎_elim (λ e. inl e) (λ e. inr (none_left e)) x.1);
+  }
+
+  -- what the others say is still so after the step of one
+  abbrev pub AllFitEnd : (s : State (Homes T) (Knows T)) → Keeps s → ℕ → Knows T → List (Home T) → ℕ → Type 0
+  AllFitEnd s k id w hs mark = ((j : ℕ) (u : Knows T) → j ≢ id → get_elem? s.views j ≡ some u
+      → FitsEnd hs mark (slice_set s.views id w) u) × FitsEnd hs mark (slice_set s.views id w) w
+
+  -- where the list and the number of senders stay
+  pub still_told : (s : State (Homes T) (Knows T)) (k : Keeps s) (id : ℕ) (v w : Knows T) (hs : List (Home T))
+      → get_elem? s.views id ≡ some v → length hs ≡ length k.homes → w.sends ≡ v.sends
+      → (w.may_add ≡ true → (w.holds ≡ true) × (0 < k.mark)) → w.alone ≡ v.alone → w.shut ≡ v.shut → w.last ≡ v.last
+      → AllFitEnd s k id w hs k.mark
+  still_told s k id v w hs at size same may_add alone shut last =
+      let b = total_set sends s.views id v w at in
+      let e : total sends (slice_set s.views id w) ≡ total sends s.views = omega arith in
+      let t = told_same k.homes hs k.mark s.views (slice_set s.views id w) v size (λ q. e ∙ q) (k.told id v at) in (
+        λ j u ne at'. told_same k.homes hs k.mark s.views (slice_set s.views id w) u size (λ q. e ∙ q) (k.told j u at'),
+        record {
+          may_add = may_add;
+          alone = λ q. t.alone (sym alone ∙ q);
+          shut = λ q. t.shut (sym shut ∙ q);
+          last = λ n q. t.last n (sym last ∙ q);
+        },
+      )
+
   -- a step of one that counts for an end. `mine`: its new view fits
   pub moved : (s : State (Homes T) (Knows T)) (k : Keeps s) (id : ℕ) (v w : Knows T) → get_elem? s.views id ≡ some v
       → 0 < v.rights
-      → (hs : List (Home T)) (new : List (Made T)) (n : ℕ) → Grows k.homes hs → Agrees hs new → Same k.all new id
-      → w.rights + k.ends ≡ v.rights + n
+      → (hs : List (Home T)) (new : List (Made T)) (mark : ℕ) → Grows k.homes hs → Agrees hs new → Same k.all new id
       → ((f : ℕ → ℕ) → count f w + made_count f k.all ≡ count f v + made_count f new)
       → ((m : ℕ) (h : Home T) → get_elem? hs m ≡ some h → out_of h + is_in m v ≡ total (is_in m) s.views + is_in m w)
-      → Fits hs new (slice_set s.views id w) id w
+      → Fits hs new (slice_set s.views id w) id w → AllFitEnd s k id w hs mark
       → (words : List ℕ) (homes : List (maybe.Option (Homes T)))
-      → (IsFree record { words = words; homes = homes; views = slice_set s.views id w } hs n
-      ⊎ IsHeld record { words = words; homes = homes; views = slice_set s.views id w } hs n)
+      → (IsFree record { words = words; homes = homes; views = slice_set s.views id w } hs mark
+      ⊎ IsHeld record { words = words; homes = homes; views = slice_set s.views id w } hs mark)
       → Keeps record { words = words; homes = homes; views = slice_set s.views id w }
-  moved s k id v w at part hs new n grows agrees same sum weight busy mine words homes lock = record {
+  moved s k id v w at part hs new mark grows agrees same weight busy mine tells words homes lock = record {
     homes = hs;
     all = new;
-    ends = n;
+    mark = mark;
     lock = lock;
     agrees = agrees;
-    rights_ = (let t = total_set rights s.views id v w at in let r = k.rights_ in omega arith);
     balance = λ f. (let t = total_set (count f) s.views id v w at in let b = k.balance f in let d = weight f
         in omega arith);
     crowd = λ m h e. (let t = total_set (is_in m) s.views id v w at in let c = busy m h e in omega arith);
@@ -91,6 +134,10 @@ module _ {T : Type 0} where
           ended = past_map (PastFits k.all s.views) (PastFits new (slice_set s.views id w)) u.ended
               (past_stays k.all new s.views id v w at part same) f.ended;
         })
+        (at_set s.views id j w u e);
+    told = λ j u e. ⊎_elim
+        (λ (t : (j ≡ id) × (w ≡ u)). subst (λ (z : Knows T). FitsEnd hs mark (slice_set s.views id w) z) t.1 tells.1)
+        (λ (t : (j ≢ id) × (get_elem? s.views j ≡ some u)). tells.0 j u t.0 t.1)
         (at_set s.views id j w u e);
   }
 
@@ -153,7 +200,7 @@ module _ {T : Type 0} where
         w,
         takes 0 l,
         ap (λ x. get_elem? x 0) free.2,
-        moved s k id v w at part k.homes k.all k.ends (grows_same k.homes) k.agrees (λ n _. refl) refl
+        moved s k id v w at part k.homes k.all k.mark (grows_same k.homes) k.agrees (λ n _. refl)
             (λ g. omega arith) (λ m h e. busy_same s k m (is_in m v) h e)
             record {
               named = f.named;
@@ -165,10 +212,12 @@ module _ {T : Type 0} where
               idle = λ z. absurd (omega arith);
               ended = ended_stay s k id v w at part k.all (λ n _. refl);
             }
+            (still_told s k id v w k.homes at refl refl (λ q. (refl, ((k.told id v at).may_add q).1)) refl refl refl)
             (slice_set s.words 0 1) (slice_set s.homes 0 none)
             (inr (
               id,
-              ap (λ x. slice_set x 0 1) free.1,
+              ap (λ x. slice_set x 0 1) free.1 ∙ ap (λ l. 1 ∷ l) (sym (tallies_set s.views id v w k.mark at refl refl
+                  refl)),
               ap (λ x. slice_set x 0 none) free.2,
               λ j u e. ⊎_elim (λ (t : (j ≡ id) × (w ≡ u)). λ held. (
                 t.0,
@@ -198,15 +247,16 @@ module _ {T : Type 0} where
   Lawful s k id v hs w = (new : List (Made T)) × Grows k.homes hs × Agrees hs new × Same k.all new id
       × ((g : ℕ → ℕ) → count g w + made_count g k.all ≡ count g v + made_count g new)
       × ((m : ℕ) (h : Home T) → get_elem? hs m ≡ some h → out_of h + is_in m v ≡ total (is_in m) s.views + is_in m w)
-      × Fits hs new (slice_set s.views id w) id w
+      × Fits hs new (slice_set s.views id w) id w × AllFitEnd s k id w hs k.mark
 
   pub unlocks : (f : Knows T → Knows T) (slots id : ℕ) (me : Sat T) (y : Homes T) (hs : List (Home T)) → Stands hs y
       → me.1 ≡ (0, y) ∷ [] → me.0.live ≡ true → me.0.holds ≡ true
-      → (f (unlocked me.0)).rights ≡ me.0.rights → (f (unlocked me.0)).holds ≡ false
+      → (f (unlocked me.0)).rights ≡ me.0.rights → (f (unlocked me.0)).sends ≡ me.0.sends
+      → (f (unlocked me.0)).receives ≡ me.0.receives → (f (unlocked me.0)).holds ≡ false
       → ((s : State (Homes T) (Knows T)) (k : Keeps s) → get_elem? s.views id ≡ some me.0 → 0 < me.0.rights
       → me.0.before ≡ k.homes → Lawful s k id me.0 hs (f (unlocked me.0)))
       → MayGive f slots id me
-  unlocks f slots id me y hs stands carried live holds sum lets go s k len at small =
+  unlocks f slots id me y hs stands carried live holds ends senders receivers lets go s k len at small =
       ⊎_elim
       (λ free. absurd (true≢false (sym holds ∙ free.4 id me.0 at)))
       (λ held.
@@ -219,11 +269,12 @@ module _ {T : Type 0} where
         w,
         gives,
         tt,
-        moved s k id me.0 w at part hs r.0 k.ends r.1 r.2 r.3 (ap (λ x. x + k.ends) sum) r.4 r.5 r.6
+        moved s k id me.0 w at part hs r.0 k.mark r.1 r.2 r.3 r.4 r.5 r.6 r.7
             (slice_set s.words 0 0) (homes_after s.homes me.1 gives)
             (inl (
               y,
-              ap (λ l. slice_set l 0 0) held.1,
+              ap (λ l. slice_set l 0 0) held.1 ∙ ap (λ l. 0 ∷ l) (sym (tallies_set s.views id me.0 w k.mark at ends
+                  senders receivers)),
               homes',
               stands,
               λ j u e. ⊎_elim (λ (t : (j ≡ id) × (w ≡ u)). ap (λ (z : Knows T). z.holds) (sym t.1) ∙ lets)

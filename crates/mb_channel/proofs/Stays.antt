@@ -1,6 +1,6 @@
 -- An end leaves a segment, and comes to one.
-use Rattle.std.proofs.Common.{ℕ, suc, Bool, true, false, true≢false, List, [], sym, refl, ap, subst, inl, inr, ⊎_elim, arith}
-use Rattle.std.proofs.Common.{◌≡◌, ◌≢◌, ◌⊎◌, ◌∷◌, ◌∙◌, ◌+◌, ◌-◌, ◌<◌, ◌≤◌}
+use Rattle.std.proofs.Common.{ℕ, zero, suc, Bool, true, false, true≢false, List, [], length, sym, refl, ap, subst, inl, inr, ⊎_elim, arith}
+use Rattle.std.proofs.Common.{◌≡◌, ◌≢◌, ◌⊎◌, ◌∷◌, ◌∙◌, ◌+◌, ◌-◌, ◌<◌, ◌≤◌, ◌&&◌}
 use Rattle.std.specs.Prelude.{Some, slice_set}
 use native.Mathlib.Decide.{ℕ_discrete}
 use mathlib.Core.Option.{some, some-injective}
@@ -10,8 +10,12 @@ use Rattle.atomic_table.proofs.Lists.{at_set, set_else, set_here}
 use Rattle.mb_channel.specs.Types.{Account, Arc, Global, Home, Homes, Knows, Pass, Segment, Visit}
 use Rattle.mb_channel.specs.Homes.{Agrees, At, Falls, Grows, HasIssued, IsDone, IsNear, IsNext, IsShare, Keeps, Made, MayGive, Sat, Stands}
 use Rattle.mb_channel.specs.Homes.{came_back, came_to, is_in, left_segment, made_by, made_in, out_of, total, unlocked, went_on}
-use Rattle.mb_channel.proofs.Moves.{ended_stay, grows_same, near_grows, next_grows, unlocks}
+use Rattle.mb_channel.proofs.Moves.{ended_stay, grows_same, near_grows, next_grows, still_told, unlocks}
 use Rattle.mb_channel.proofs.Views.{below_total, by_other, by_own, in_else, in_here, in_none, in_other, in_own, made_map, size_set, there}
+
+both_are : (a b : Bool) → a && b ≡ true → (a ≡ true) × (b ≡ true)
+both_are true b e = (refl, e)
+both_are false b e = absurd (true≢false (sym e))
 
 module _ {T : Type 0} where
   -- one segment's hub has changed
@@ -65,6 +69,14 @@ module _ {T : Type 0} where
         );
       }
 
+  -- all before the next one are done
+  one_more : (hs : List (Home T)) (k : ℕ) → IsNext hs k → At hs k IsDone → IsNext hs (suc k)
+  one_more hs k next here j lt = go (ℕ_discrete j k)
+    where
+      go : Dec (j ≡ k) → At hs j IsDone
+      go (yes e) = subst (λ i. At hs i IsDone) (sym e) here
+      go (no ne) = next j (omega arith)
+
   -- who may not receive has received nothing
   rich : (P : Type 0) (b c : Bool) → c ≡ b → (a : Account T) → (c ≡ true → P) → (c ≡ false → a.got ≡ [])
       → (a.got ≡ []) ⊎ P
@@ -92,7 +104,7 @@ module _ {T : Type 0} where
       → (done ≡ true → IsDone g) → (me.0.takes ≡ false → a.got ≡ [])
       → MayGive (left_segment a done) slots id me
   unlocks_left a done slots id me y hs stands carried live holds inside h g at is same keeps_ back out next poor =
-      unlocks (left_segment a done) slots id me y hs stands carried live holds refl refl
+      unlocks (left_segment a done) slots id me y hs stands carried live holds refl refl refl refl
       (λ s k at' part before.
       let v = me.0 in
       let f = k.fits id v at' in
@@ -122,11 +134,15 @@ module _ {T : Type 0} where
           falls = (omega arith, f.falls);
           near = subst (λ l. IsNear l (suc v.at)) (sym now) (inr (v.at, refl, (g, there_, tt)));
           inside = λ q. absurd (true≢false (sym q));
-          takes = λ q. subst (λ l. IsNext l (suc v.at)) (sym now) (inr (v.at, refl, (g, there_, next q)));
+          takes = λ q. subst (λ l. IsNext l (suc v.at)) (sym now) (one_more (slice_set k.homes v.at g) v.at
+              (next_grows k.homes (slice_set k.homes v.at g) grows v.at (f.takes (both_are v.takes done q).0))
+              (g, there_, next (both_are v.takes done q).1));
           newborn = λ q. absurd (true≢false (sym live ∙ q));
           idle = λ z. absurd (omega arith);
           ended = ended_stay s k id v w at' part (m ∷ k.all) others;
         },
+        still_told s k id v w hs at' (ap length now ∙ size_set k.homes v.at g) refl (λ q. absurd (true≢false (sym q)))
+            refl refl refl,
       ))
 
   pub unlocks_came : (b : Bool) (c : Arc (Segment T Global) Global) (p : Pass T) (g : Home T) (slots id : ℕ)
@@ -136,7 +152,7 @@ module _ {T : Type 0} where
       → HasIssued h g c p → (b ≡ true → me.0.takes ≡ true)
       → MayGive (came_to c b) slots id me
   unlocks_came b c p g slots id me y hs stands carried live holds outside h at is did next = unlocks
-      (came_to c b) slots id me y hs stands carried live holds refl refl
+      (came_to c b) slots id me y hs stands carried live holds refl refl refl refl
       (λ s k at' part before.
       let v = me.0 in
       let f = k.fits id v at' in
@@ -167,6 +183,8 @@ module _ {T : Type 0} where
           idle = λ z. absurd (omega arith);
           ended = ended_stay s k id v w at' part k.all (λ j _. refl);
         },
+        still_told s k id v w hs at' (ap length now ∙ size_set k.homes v.at g) refl (λ q. absurd (true≢false (sym q)))
+            refl refl refl,
       ))
 
   falls_more : (b c : ℕ) (vs : List (Visit T)) → b ≤ c → Falls b vs → Falls c vs
@@ -174,14 +192,15 @@ module _ {T : Type 0} where
   falls_more b c (v ∷ vs) le f = (let x = f.0 in omega arith, f.1)
 
   near_next : (hs : List (Home T)) (k : ℕ) → IsNext hs k → IsNear hs k
-  near_next hs k n = ⊎_elim (λ e. inl e) (λ t. inr (t.0, t.1, (t.2.0, t.2.1, tt))) n
+  near_next hs zero n = inl refl
+  near_next hs (suc j) n = let a = n j (omega arith) in inr (j, refl, (a.0, a.1, tt))
 
   -- all segments before place j are freed
   pub unlocks_on : (j slots id : ℕ) (me : Sat T) (y : Homes T) (hs : List (Home T)) → Stands hs y
       → me.1 ≡ (0, y) ∷ [] → me.0.live ≡ true → me.0.holds ≡ true → me.0.inside ≡ false → hs ≡ me.0.before
       → me.0.at < j → IsNext me.0.before j → MayGive (went_on j) slots id me
   unlocks_on j slots id me y hs stands carried live holds outside is far next = unlocks
-      (went_on j) slots id me y hs stands carried live holds refl refl
+      (went_on j) slots id me y hs stands carried live holds refl refl refl refl
       (λ s k at part before.
       let v = me.0 in
       let f = k.fits id v at in
@@ -207,4 +226,5 @@ module _ {T : Type 0} where
           idle = λ z. absurd (omega arith);
           ended = ended_stay s k id v w at part k.all (λ n _. refl);
         },
+        still_told s k id v w hs at (ap length (sym now)) refl (λ q. absurd (true≢false (sym q))) refl refl refl,
       ))

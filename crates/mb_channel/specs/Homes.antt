@@ -1,6 +1,7 @@
 -- The list of segments under the channel's lock, and which end did what in which segment.
--- Words: 0 the lock, 1 for how many ends the ends count. Slot 0: the segments.
-use Rattle.std.specs.Prelude.{ℕ, suc, ◌≡◌, ◌≢◌, ◌+◌, ◌-◌, ◌<◌, ◌≤◌, ◌⊎◌, ◌++◌, Bool, true, false, nat_eq, if◌then◌else◌}
+-- Words: 0 the lock, 1 to 3 for how many ends, senders and receivers the ends count, 4 the mark: 1, and 0 once the list is
+-- closed. Slot 0: the segments.
+use Rattle.std.specs.Prelude.{ℕ, suc, ◌≡◌, ◌≢◌, ◌+◌, ◌-◌, ◌<◌, ◌≤◌, ◌⊎◌, ◌++◌, ◌&&◌, ◌||◌, Bool, true, false, nat_eq, if◌then◌else◌}
 use Rattle.std.specs.Prelude.{List, [], ◌∷◌, length, slice_set, Option, Some, None}
 use mathlib.Core.Option.{some, none}
 use lib.ListN.{get_elem?}
@@ -67,9 +68,9 @@ pub record Stands {T : Type 0} (hs : List (Home T)) (l : Homes T) : Type 0 where
 abbrev pub At : {T : Type 0} → List (Home T) → ℕ → (Home T → Type 0) → Type 0
 At {T} hs k P = (h : Home T) × (get_elem? hs k ≡ some h) × P h
 
--- nothing waits in the segment before k, for ever
+-- each segment before k is done: nothing waits there, for ever
 abbrev pub IsNext : {T : Type 0} → List (Home T) → ℕ → Type 0
-IsNext hs k = (k ≡ 0) ⊎ ((j : ℕ) × (suc j ≡ k) × At hs j IsDone)
+IsNext hs k = (j : ℕ) → j < k → At hs j IsDone
 
 -- segment k is there, or it may be the next one
 abbrev pub IsNear : {T : Type 0} → List (Home T) → ℕ → Type 0
@@ -90,6 +91,8 @@ pub record Agrees {T : Type 0} (hs : List (Home T)) (all : List (Made T)) : Type
 abbrev pub first_view : {T : Type 0} → Knows T
 first_view = record {
   rights = 1;
+  sends = 1;
+  receives = 1;
   live = false;
   number = 0;
   visits = [];
@@ -100,10 +103,14 @@ first_view = record {
   ended = [];
   holds = false;
   before = [];
+  may_add = false;
+  alone = false;
+  shut = false;
+  last = None;
 }
 
 abbrev pub spent_view : {T : Type 0} → Knows T
-spent_view = record first_view { rights = 0 }
+spent_view = record first_view { rights = 0; sends = 0; receives = 0 }
 
 abbrev pub total : {T : Type 0} → (Knows T → ℕ) → List (Knows T) → ℕ
 total f [] = 0
@@ -111,6 +118,27 @@ total f (v ∷ vs) = f v + total f vs
 
 abbrev pub rights : {T : Type 0} → Knows T → ℕ
 rights v = v.rights
+
+abbrev pub sends : {T : Type 0} → Knows T → ℕ
+sends v = v.sends
+
+abbrev pub receives : {T : Type 0} → Knows T → ℕ
+receives v = v.receives
+
+-- the words but the lock
+abbrev pub tallies : {T : Type 0} → List (Knows T) → ℕ → List ℕ
+tallies views mark = total rights views ∷ total sends views ∷ total receives views ∷ mark ∷ []
+
+-- the list never grows any more
+abbrev pub IsShut : {T : Type 0} → ℕ → List (Knows T) → Type 0
+IsShut mark views = (mark ≡ 0) ⊎ (total sends views ≡ 0)
+
+-- what a view says of the senders, the mark and the number of segments is so
+pub record FitsEnd {T : Type 0} (hs : List (Home T)) (mark : ℕ) (views : List (Knows T)) (v : Knows T) : Type 0 where
+  pub may_add : v.may_add ≡ true → (v.holds ≡ true) × (0 < mark)
+  pub alone : v.alone ≡ true → total sends views ≡ 0
+  pub shut : v.shut ≡ true → mark ≡ 0
+  pub last : (n : ℕ) → v.last ≡ Some n → (length hs ≡ n) × IsShut mark views
 
 -- 1 for an end that has a pass of segment k
 abbrev pub is_in : {T : Type 0} → ℕ → Knows T → ℕ
@@ -173,23 +201,24 @@ OneHolds {T} views hs holder = (id : ℕ) (v : Knows T) → get_elem? views id �
     → (id ≡ holder) × (v.before ≡ hs)
 
 abbrev pub IsFree : {T : Type 0} → State (Homes T) (Knows T) → List (Home T) → ℕ → Type 0
-IsFree {T} s hs n = (l : Homes T) × (s.words ≡ 0 ∷ n ∷ []) × (s.homes ≡ some l ∷ []) × Stands hs l
+IsFree {T} s hs mark = (l : Homes T) × (s.words ≡ 0 ∷ tallies s.views mark) × (s.homes ≡ some l ∷ []) × Stands hs l
     × NobodyHolds s.views
 
 abbrev pub IsHeld : {T : Type 0} → State (Homes T) (Knows T) → List (Home T) → ℕ → Type 0
-IsHeld s hs n = (holder : ℕ) × (s.words ≡ 1 ∷ n ∷ []) × (s.homes ≡ none ∷ []) × OneHolds s.views hs holder
+IsHeld s hs mark = (holder : ℕ) × (s.words ≡ 1 ∷ tallies s.views mark) × (s.homes ≡ none ∷ [])
+    × OneHolds s.views hs holder
 
 pub record Keeps {T : Type 0} (s : State (Homes T) (Knows T)) : Type 0 where
   pub homes : List (Home T)
   pub all : List (Made T)
-  pub ends : ℕ
-  pub lock : IsFree s homes ends ⊎ IsHeld s homes ends
+  pub mark : ℕ
+  pub lock : IsFree s homes mark ⊎ IsHeld s homes mark
   pub agrees : Agrees homes all
-  pub rights_ : total rights s.views ≡ ends
   pub crowd : (k : ℕ) (h : Home T) → get_elem? homes k ≡ some h → out_of h ≡ total (is_in k) s.views
   pub balance : (f : ℕ → ℕ) → total (count f) s.views ≡ made_count f all
   pub fresh : (n : ℕ) → length s.views ≤ n → made_by n all ≡ []
   pub fits : (id : ℕ) (v : Knows T) → get_elem? s.views id ≡ some v → Fits homes all s.views id v
+  pub told : (id : ℕ) (v : Knows T) → get_elem? s.views id ≡ some v → FitsEnd homes mark s.views v
 
 -- ---- what a step does to a view
 abbrev pub view_in : {T : Type 0} → Seat (Homes T) (Knows T) → Knows T
@@ -202,31 +231,48 @@ abbrev pub locked : {T : Type 0} → List (Home T) → Knows T → Knows T
 locked hs v = record v { holds = true; before = hs }
 
 abbrev pub unlocked : {T : Type 0} → Knows T → Knows T
-unlocked v = record v { holds = false; before = [] }
+unlocked v = record v { holds = false; before = []; may_add = false }
 
 abbrev pub counts_more : {T : Type 0} → Knows T → Knows T
 counts_more v = record v { rights = v.rights + 1 }
-
-abbrev pub counts_less : {T : Type 0} → Knows T → Knows T
-counts_less v = record v { rights = v.rights - 1 }
 
 abbrev pub past_of : {T : Type 0} → Knows T → Past T
 past_of v = record { number = v.number; visits = v.visits }
 
 abbrev pub both : {T : Type 0} → Knows T → Knows T → Knows T
-both v w = record v { rights = v.rights + w.rights; ended = v.ended ++ (past_of w ∷ w.ended) }
+both v w = record v {
+  rights = v.rights + w.rights;
+  sends = v.sends + w.sends;
+  receives = v.receives + w.receives;
+  ended = v.ended ++ (past_of w ∷ w.ended);
+  alone = v.alone || w.alone;
+  shut = v.shut || w.shut;
+}
 
--- an end that was not there before. It begins where its maker is
-abbrev pub newborn_view : {T : Type 0} → Knows T → Knows T
-newborn_view v = record first_view { at = v.at; takes = v.takes }
+-- an end that was not there before. It begins where its maker is, counts for so many senders and receivers, and knows as
+-- much of the list's end
+abbrev pub newborn_view : {T : Type 0} → ℕ → ℕ → Knows T → Knows T
+newborn_view a b v = record first_view {
+  at = v.at;
+  takes = v.takes;
+  sends = a;
+  receives = b;
+  alone = v.alone;
+  shut = v.shut;
+  last = v.last;
+}
 
--- it has left its segment, in which it did this. If that is done, it may receive in the next one
+-- the maker of one that counts for them in its place
+abbrev pub splits_off : {T : Type 0} → ℕ → ℕ → Knows T → Knows T
+splits_off a b v = record v { rights = v.rights - 1; sends = v.sends - a; receives = v.receives - b }
+
+-- it has left its segment, in which it did this. If that is done, it may receive in the next one if it could in that
 abbrev pub left_segment : {T : Type 0} → Account T → Bool → Knows T → Knows T
 left_segment a done v = record v {
   visits = record { segment = v.at; account = a } ∷ v.visits;
   inside = false;
   at = suc v.at;
-  takes = done;
+  takes = v.takes && done;
 }
 
 -- all segments before k are freed: it goes on to that one, and may receive there
@@ -261,9 +307,6 @@ MayGive f slots id me = Allows Keeps slots id me 0 (λ _. 0) (λ _. gives_lock f
 abbrev pub gets_number : {T : Type 0} → Step (Homes T) → Sat T → ℕ → Sat T → Type 0
 gets_number st m r n = (id : ℕ) × (n ≡ (record m.0 { live = true; number = id }, m.1))
 
-abbrev pub counting : {T : Type 0} → Step (Homes T) → Sat T → ℕ → Sat T → Type 0
-counting st m r n = (n.1 ≡ m.1) × (r ≡ st.first → n.0 ≡ counts_more m.0) × (r ≢ st.first → n.0 ≡ m.0)
-
 -- ---- what a hub did under the lock
 -- it took back a pass with this view
 abbrev pub HasTakenBack : {T : Type 0} → Home T → Home T → View T → Type 0
@@ -285,6 +328,10 @@ IsNew h = (came_back h ≡ []) × (out_of h ≡ 0)
 -- the list, with a new segment more or not
 abbrev pub Longer : {T : Type 0} → List (Home T) → List (Home T) → Type 0
 Longer {T} hs gs = (gs ≡ hs) ⊎ ((h : Home T) × IsNew h × (gs ≡ hs ++ h ∷ []))
+
+-- an end that has the lock may leave this list: as it was; or longer, if the end sends and saw that the list is not closed
+abbrev pub MayLeave : {T : Type 0} → Knows T → List (Home T) → Type 0
+MayLeave v hs = (hs ≡ v.before) ⊎ ((0 < v.sends) × (v.may_add ≡ true) × Longer v.before hs)
 
 -- the pass is of this segment
 abbrev pub IsPassOf : {T : Type 0} → Option (Arc (Segment T Global) Global) → Pass T → Type 0
@@ -316,4 +363,4 @@ HoldsHomes {T} m P = (l : Homes T) × (m.1 ≡ (0, l) ∷ []) × (hs : List (Hom
 
 -- the end has a number, and not the lock
 abbrev pub IsReady : {T : Type 0} → Sat T → Type 0
-IsReady m = (m.0.live ≡ true) × (m.0.holds ≡ false) × (m.0.before ≡ []) × (m.1 ≡ [])
+IsReady m = (m.0.live ≡ true) × (m.0.holds ≡ false) × (m.0.before ≡ []) × (m.1 ≡ []) × (m.0.may_add ≡ false)

@@ -11,3 +11,6 @@ pub mod Inside
 pub mod Ends
 pub mod Told
 pub mod Receives
+pub mod Rests
+pub mod Closing
+pub mod Tallies

@@ -1,7 +1,7 @@
 -- What segments tell of passes, and what ends did in them: samples of numbers.
 use Rattle.std.specs.Prelude.{ℕ, List, [], ◌∷◌, ◌≡◌}
 use Rattle.mb_segment.specs.Passes.{nothing_done}
-use Rattle.mb_channel.specs.Types.{Account, Knows, Past, Position, Visit}
+use Rattle.mb_channel.specs.Types.{Account, Knows, Position, Visit}
 use Rattle.mb_channel.specs.ChannelTheorem.{End, History, Spot}
 use Rattle.mb_channel.specs.ChannelSamples.{call, claim, entry, four, history, receiver, sender, spot}
 use Rattle.mb_channel.specs.Homes.{first_view}

@@ -1,9 +1,9 @@
 -- The whole life of a channel, read off what its last end and its segments tell in the end.
-use Rattle.std.specs.Prelude.{ℕ, zero, suc, ◌≡◌, ◌<◌, ◌≤◌, ◌+◌, ◌++◌, List, [], ◌∷◌, length, flat_map, nat_eq, if◌then◌else◌}
+use Rattle.std.specs.Prelude.{ℕ, zero, suc, ◌≡◌, ◌+◌, ◌++◌, List, [], ◌∷◌, length, flat_map, nat_eq, if◌then◌else◌}
 use Rattle.mb_segment.specs.Whole.{IsWhole as IsToldWhole}
 use Rattle.mb_channel.specs.Types.{Account, Home, Knows, Past, Position, Visit}
 use Rattle.mb_channel.specs.ChannelTheorem.{Call, End, Spot, WholeLife}
-use Rattle.mb_channel.specs.Homes.{At, IsDone, came_back}
+use Rattle.mb_channel.specs.Homes.{IsDone, came_back}
 use Rattle.mb_channel.specs.Stays.{AreStays, Told, life_of}
 
 -- ---- the segments
@@ -14,10 +14,6 @@ HaveEnded [] [] = Unit {0}
 HaveEnded [] (l ∷ ls) = ⊥
 HaveEnded (h ∷ hs) [] = ⊥
 HaveEnded (h ∷ hs) (l ∷ ls) = IsToldWhole (came_back h) l × (IsDone h → l ≡ []) × HaveEnded hs ls
-
--- where no value can come any more, none can in the segments before. Of the last segment that is not asked
-abbrev pub DoneInTurn : {T : Type 0} → List (Home T) → Type 0
-DoneInTurn hs = (j k : ℕ) → j ≤ k → suc k < length hs → At hs k IsDone → At hs j IsDone
 
 abbrev pub all_left : {T : Type 0} → List (List T) → List T
 all_left = flat_map (λ l. l)

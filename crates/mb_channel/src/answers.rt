@@ -11,8 +11,32 @@ pub enum Came<T: Drop> {
     Gone(usize),
     /// There is no such segment yet.
     NotYet,
+    /// There is no such segment, and never will be: the list is closed, or no sender is left.
+    Closed,
     /// So many ends are in the segment that they cannot be counted.
     Crowded,
     /// The lock is taken.
     Locked,
+}
+
+/// What came of adding a segment.
+#[derive(Clone, Copy, PartialEq, Eq, Debug, Drop)]
+pub enum Appended {
+    /// It is there, added now or before.
+    There,
+    /// The list is closed. Nothing was added.
+    Closed,
+    /// The lock is taken.
+    Locked,
+}
+
+/// What came of counting for one sender less.
+#[derive(Clone, Copy, PartialEq, Eq, Debug, Drop)]
+pub enum Retired {
+    /// It was the last sender: none is left.
+    Last,
+    /// It was one of several.
+    One,
+    /// There were not so many senders as were seen, but so many.
+    Again(u64),
 }

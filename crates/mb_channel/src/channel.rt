@@ -1,15 +1,17 @@
 //! A channel, and how its ends come from segment to segment.
-use crate::answers::Came;
-use crate::end::{End, Receiver};
+use crate::answers::{Appended, Came};
+use crate::end::End;
 use crate::inside::Inside;
 use crate::list::List;
-use std::alloc::{AllocError, Global};
+use std::alloc::Global;
 
 /// Why a call could not be made. Nothing has changed.
 #[derive(Clone, Copy, PartialEq, Eq, Debug, Drop)]
 pub enum Refused {
     /// The allocator refused the memory for the next segment.
     NoMemory,
+    /// The channel is closed, or no sender is left.
+    Closed,
     /// So many ends are in a segment, or there were so many segments, that they cannot be counted.
     Crowded,
 }
@@ -27,47 +29,36 @@ fn size_at(at: usize) -> u32 {
 }
 
 impl<T: Drop> Channel<T> {
-    ghost use Rattle.std.specs.Prelude.{◌≡◌, [], true, false, is_some, IfOk};
+    ghost use Rattle.std.specs.Prelude.{◌≡◌, ◌<◌, true, false, is_some};
     ghost use Rattle.mb_channel.specs.Ends.{IsEndOf, IsOver, IsSame, got_by, sent_by, view_of};
-
-    /// A channel, and its first end. The error is [`AllocError`] if the allocator refuses the memory.
-    pub fn new(alloc: Global) -> Result<(Channel<T>, Receiver<T>), AllocError>
-        ensures channel { IfOk result (λ r. IsEndOf r.0 r.1.end) }
-        ensures fresh { IfOk result (λ r. (sent_by r.1.end ≡ []) × (got_by r.1.end ≡ [])
-            × ((view_of r.1.end).ended ≡ [])) }
-    {
-        let (list, chair) = List::new(alloc)?;
-        let end = End {
-            chair,
-            at: 0,
-            rights: 1,
-            inside: None,
-        };
-        Ok((Channel { list, alloc }, Receiver { end }))
-    }
 
     /// Adds a segment where the end is, if there is none yet.
     fn append(&self, end: &mut End<T>) -> Result<(), Refused>
         requires channel { IsEndOf self.now end.old }
-        ensures list { end.new.chair.table_id ≡ end.old.chair.table_id }
-        ensures view { view_of end.new ≡ view_of end.old }
-        ensures inside { end.new.inside ≡ end.old.inside }
+        requires sender { 0 < (view_of end.old).sends }
+        ensures end { IsSame end.old end.new }
+        ensures sent { sent_by end.new ≡ sent_by end.old }
+        ensures got { got_by end.new ≡ got_by end.old }
+        ensures takes { (view_of end.new).takes ≡ (view_of end.old).takes }
     {
         let at = end.at;
         match self
             .list
             .append(&mut end.chair, at, self.alloc, size_at(at))
         {
-            Ok(_) => Ok(()),
+            Ok(Appended::There) => Ok(()),
+            Ok(Appended::Locked) => Ok(()),
+            Ok(Appended::Closed) => Err(Refused::Closed),
             Err(_) => Err(Refused::NoMemory),
         }
     }
 
-    /// Tries to come to the segment at the end's place. If there is none yet, it adds one.
+    /// Tries to come to the segment at the end's place. If there is none yet, a sender adds one.
     fn come(&self, end: &mut End<T>, takes: bool) -> Result<(), Refused>
         requires channel { IsEndOf self.now end.old }
         requires outside { is_some end.old.inside ≡ false }
         requires side { takes ≡ true → (view_of end.old).takes ≡ true }
+        requires sender { takes ≡ false → 0 < (view_of end.old).sends }
         ensures end { IsSame end.old end.new }
         ensures sent { sent_by end.new ≡ sent_by end.old }
         ensures got { got_by end.new ≡ got_by end.old }
@@ -91,7 +82,8 @@ impl<T: Drop> Channel<T> {
                 end.at = first;
                 Ok(())
             }
-            Came::NotYet => self.append(end),
+            Came::NotYet => { if takes { Ok(()) } else { self.append(end) } }
+            Came::Closed => Err(Refused::Closed),
             Came::Crowded => Err(Refused::Crowded),
             Came::Locked => Ok(()),
         }
@@ -138,6 +130,7 @@ impl<T: Drop> Channel<T> {
     pub(crate) fn go_on(&self, end: &mut End<T>, takes: bool) -> Result<(), Refused>
         requires channel { IsEndOf self.now end.old }
         requires side { takes ≡ true → (view_of end.old).takes ≡ true }
+        requires sender { takes ≡ false → 0 < (view_of end.old).sends }
         requires over { takes ≡ true → IsOver end.old }
         ensures end { IsSame end.old end.new }
         ensures sent { sent_by end.new ≡ sent_by end.old }

@@ -33,6 +33,7 @@ pub struct End<T: Drop> {
 #[derive(Drop)]
 pub struct Sender<T: Drop> {
     pub(crate) end: End<T>,
+    ghost sends: { 0 < (view_in end.chair).sends },
 }
 
 /// An end that receives.
@@ -40,6 +41,7 @@ pub struct Sender<T: Drop> {
 pub struct Receiver<T: Drop> {
     pub(crate) end: End<T>,
     ghost takes: { (view_in end.chair).takes ≡ true },
+    ghost receives: { 0 < (view_in end.chair).receives },
 }
 
 impl<T: Drop> End<T> {

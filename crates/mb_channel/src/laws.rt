@@ -1,10 +1,13 @@
 //! The laws of a channel. The functions compute nothing: their contracts are the laws.
-ghost use Rattle.std.specs.Prelude.{ℕ, List};
+ghost use Rattle.std.specs.Prelude.{ℕ, List, Some, length, true, ◌≡◌};
+ghost use mathlib.Core.Option.{some};
+ghost use lib.ListN.{get_elem?};
 ghost use Rattle.mb_channel.specs.ChannelTheorem.{EachMoment, End, History, Moment, Segment, WholeLife, life};
 ghost use Rattle.mb_channel.specs.Stays.{AreStays, Told, life_of};
 ghost use Rattle.mb_channel.specs.Types.{Home, Knows};
-ghost use Rattle.mb_channel.specs.Homes.{IsWhole};
-ghost use Rattle.mb_channel.specs.Lives.{DoneInTurn, HaveEnded, HaveLived, all_left, end_in};
+ghost use Rattle.mb_channel.specs.Closing.{IsFinished, ListState};
+ghost use Rattle.mb_channel.specs.Homes.{AllHomes, IsShut, IsWhole, Keeps, sends, total};
+ghost use Rattle.mb_channel.specs.Lives.{HaveEnded, HaveLived, all_left, end_in};
 ghost use Rattle.mb_channel.specs.Segments.{AreLogs, EachKeeps, InTurn, KeepsEnd, TakenInTurn};
 ghost use Rattle.mb_channel.specs.Told.{AllTell};
 
@@ -33,7 +36,7 @@ pub fn passes_make_ends<T>()
 /// given back is what the segments had left, and both are of one life.
 pub fn lists_make_lives<T: Drop>()
     ensures life { (v : Knows T) (hs : List (Home T)) (ls : List (List T))
-        → IsWhole v hs → HaveEnded hs ls → DoneInTurn hs
+        → IsWhole v hs → HaveEnded hs ls
         → HaveLived (end_in v hs) (all_left ls) }
 {}
 
@@ -42,3 +45,18 @@ pub fn lives_have_the_logs<T: Drop>()
     ensures logs { (v : Knows T) (hs : List (Home T)) (ls : List (List T))
         → IsWhole v hs → HaveEnded hs ls → AllTell v hs }
 {}
+
+/// Of each moment: where an end was told that there are so many segments, there are, and no more will come, for the list
+/// is closed or no sender is left. If the end is a receiver, nothing waits in any of them, and nothing can be sent there.
+pub fn closed_is_true<T: Drop>()
+    ensures last { (c : ListState T) (k : Keeps c) (id n : ℕ) (v : Knows T)
+        → get_elem? c.views id ≡ some v → v.last ≡ Some n
+        → (length k.homes ≡ n) × IsShut k.mark c.views }
+    ensures empty { (c : ListState T) (k : Keeps c) (id n : ℕ) (v : Knows T)
+        → get_elem? c.views id ≡ some v → v.last ≡ Some n → v.takes ≡ true → v.at ≡ n
+        → AllHomes IsFinished k.homes }
+    ensures alone { (c : ListState T) (k : Keeps c) (id : ℕ) (v : Knows T)
+        → get_elem? c.views id ≡ some v → v.alone ≡ true → total sends c.views ≡ 0 }
+{
+    mb_segment::laws::over_is_true::<T>();
+}

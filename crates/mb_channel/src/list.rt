@@ -1,12 +1,15 @@
 //! The list of segments: its lock, which is tried and never waited for, and its ends.
-ghost use Rattle.std.specs.Prelude.{ℕ, List as Seq, ◌≡◌, ◌≢◌, ◌+◌, ◌<◌, ◌∷◌, [], true, false, IfOk, IfSome};
-ghost use Rattle.mb_channel.specs.Homes.{Finds, HoldsHomes, IsFirst, IsReady, IsWhole, Longer, MayGive, Stands, both};
-ghost use Rattle.mb_channel.specs.Homes.{counts_less, counts_more, locked, newborn_view, unlocked, view_in};
+ghost use Rattle.std.specs.Prelude.{ℕ, List as Seq, ◌≡◌, ◌≢◌, ◌+◌, ◌<◌, ◌≤◌, ◌∷◌, [], true, false, IfOk, IfSome, OnErr};
+ghost use Rattle.mb_channel.specs.Answers.{OfAppended};
+ghost use Rattle.mb_channel.specs.Homes.{Finds, HoldsHomes, IsFirst, IsReady, IsWhole, Longer, MayGive, MayLeave, Stands, both};
+ghost use Rattle.mb_channel.specs.Homes.{counts_more, locked, splits_off, unlocked, view_in};
+ghost use Rattle.mb_channel.specs.Tallies.{saw_closed};
 ghost use Rattle.mb_channel.specs.declared.home.Home.{Home};
 ghost use Rattle.mb_channel.specs.declared.home.Homes.{Homes};
 
+use crate::answers::Appended;
 use crate::home::Homes;
-use crate::rule::{Change, Counts, Ends, GetsNumber, GivesLock, ListRule, TakesLock};
+use crate::rule::{Change, Counts, Ends, GetsNumber, GivesLock, ListRule, Side, Splits, TakesLock};
 use crate::view::Knows;
 use atomic_table::{Seat, Table};
 use std::alloc::{AllocError, Global};
@@ -18,7 +21,7 @@ pub type Chair<T> = Seat<Homes<T>, Knows<T>>;
 #[derive(Drop)]
 pub struct List<T: Drop> {
     pub(crate) table: Table<Homes<T>, Knows<T>, (), ListRule, Global>,
-    ghost shape: { (table.shared.table_id.words ≡ 2) × (table.shared.table_id.slots ≡ 1) },
+    ghost shape: { (table.shared.table_id.words ≡ 5) × (table.shared.table_id.slots ≡ 1) },
 }
 
 impl<T: Drop> List<T> {
@@ -60,11 +63,11 @@ impl<T: Drop> List<T> {
         self.table.shared.store::<GivesLock<F>>(chair, 0, 0);
     }
 
-    /// Gives the lock back. The list is as it was found, or has one segment more.
+    /// Gives the lock back. The list is as it was found, or a sender added a segment to one that is not closed.
     pub(crate) fn unlock(&self, chair: &mut Chair<T>)
         requires list { chair.old.table_id ≡ self.now.table.shared.table_id }
         requires held { ((view_in chair.old).live ≡ true) × ((view_in chair.old).holds ≡ true) }
-        requires homes { HoldsHomes chair.old.me (Longer (view_in chair.old).before) }
+        requires homes { HoldsHomes chair.old.me (MayLeave (view_in chair.old)) }
         ensures list { (chair.new.table_id ≡ chair.old.table_id) × (chair.new.id ≡ chair.old.id) }
         ensures view { (view_in chair.new ≡ unlocked (view_in chair.old)) × (chair.new.me.1 ≡ []) }
     {
@@ -95,37 +98,46 @@ impl<T: Drop> List<T> {
         }
     }
 
-    /// Adds a segment of this many positions at this place, if there is none yet. It is `Ok(false)` if the lock is
-    /// taken. The error is [`AllocError`] if the allocator refuses the memory: then nothing has changed.
+    /// A sender adds a segment of this many positions at this place, if there is none yet. The error is [`AllocError`] if
+    /// the allocator refuses the memory: then nothing has changed.
     pub fn append(
         &self,
         chair: &mut Chair<T>,
         at: usize,
         alloc: Global,
         size: u32,
-    ) -> Result<bool, AllocError>
+    ) -> Result<Appended, AllocError>
         requires list { chair.old.table_id ≡ self.now.table.shared.table_id }
         requires ready { IsReady chair.old.me }
+        requires sender { 0 < (view_in chair.old).sends }
         ensures list { (chair.new.table_id ≡ chair.old.table_id) × (chair.new.id ≡ chair.old.id) }
-        ensures same { chair.new.me ≡ chair.old.me }
+        ensures answer { IfOk result (λ a. OfAppended a (chair.new.me ≡ chair.old.me)
+            (chair.new.me ≡ (saw_closed (view_in chair.old), []))) }
+        ensures refused { OnErr result (chair.new.me ≡ chair.old.me) }
     {
         if !self.try_lock(chair) {
-            return Ok(false);
+            return Ok(Appended::Locked);
+        }
+        if self.sees_closed(chair) {
+            self.unlock(chair);
+            return Ok(Appended::Closed);
         }
         let added = self.add_home(chair, at, alloc, size);
         self.unlock(chair);
         added?;
-        Ok(true)
+        Ok(Appended::There)
     }
 
-    /// A list with no segment, and its first chair. The error is [`AllocError`] if the allocator refuses the memory.
+    /// A list with no segment, and its first chair, which counts for a sender and a receiver. The error is [`AllocError`]
+    /// if the allocator refuses the memory.
     pub fn new(alloc: Global) -> Result<(List<T>, Chair<T>), AllocError>
         ensures list { IfOk result (λ r. r.1.table_id ≡ r.0.table.shared.table_id) }
         ensures first { IfOk result (λ r. IsReady r.1.me × IsFirst (view_in r.1)
-            × ((view_in r.1).at ≡ 0) × ((view_in r.1).takes ≡ true)) }
+            × ((view_in r.1).at ≡ 0) × ((view_in r.1).takes ≡ true)
+            × ((view_in r.1).sends ≡ 1) × ((view_in r.1).receives ≡ 1)) }
     {
         let homes = no_homes(alloc)?;
-        match Table::new(alloc, &[0, 1], homes, &()) {
+        match Table::new(alloc, &[0, 1, 1, 1, 1], homes, &()) {
             Ok((table, mut chair)) => {
                 let list = List { table };
                 list.number(&mut chair);
@@ -153,20 +165,24 @@ impl<T: Drop> List<T> {
             .compare_exchange::<Counts>(chair, 1, seen, new)
     }
 
-    /// A chair for another end, which begins where this one is.
-    pub fn another(&self, chair: &mut Chair<T>) -> Chair<T>
+    /// A chair for another end, which begins where this one is. It counts for a sender or a receiver, for which this one
+    /// counts no more.
+    pub fn another<S: Side>(&self, chair: &mut Chair<T>) -> Chair<T>
         requires list { chair.old.table_id ≡ self.now.table.shared.table_id }
         requires ready { IsReady chair.old.me }
-        requires counts { 1 < (view_in chair.old).rights }
+        requires counts { (1 < (view_in chair.old).rights) × (S.sends ≤ (view_in chair.old).sends)
+            × (S.receives ≤ (view_in chair.old).receives) }
         ensures list { (chair.new.table_id ≡ chair.old.table_id)
             × (result.table_id ≡ chair.old.table_id) }
-        ensures left { (view_in chair.new ≡ counts_less (view_in chair.old))
+        ensures left { (view_in chair.new ≡ splits_off S.sends S.receives (view_in chair.old))
             × (chair.new.me.1 ≡ []) }
         ensures new { IsReady result.me × IsFirst (view_in result)
             × ((view_in result).at ≡ (view_in chair.old).at)
-            × ((view_in result).takes ≡ (view_in chair.old).takes) }
+            × ((view_in result).takes ≡ (view_in chair.old).takes)
+            × ((view_in result).sends ≡ S.sends) × ((view_in result).receives ≡ S.receives)
+            × ((view_in result).last ≡ (view_in chair.old).last) }
     {
-        let mut new = self.table.shared.split_seat::<Ends>(chair);
+        let mut new = self.table.shared.split_seat::<Splits<S>>(chair);
         self.number(&mut new);
         new
     }

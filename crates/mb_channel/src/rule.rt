@@ -69,20 +69,107 @@ impl<T: Drop> Play<Homes<T>, Knows<T>> for GetsNumber {
 pub struct Counts;
 
 impl<T: Drop> Play<Homes<T>, Knows<T>> for Counts {
-    ghost use Rattle.mb_channel.specs.Homes.{counting};
+    ghost use Rattle.mb_channel.specs.Homes.{counts_more};
+    ghost use Rattle.mb_channel.specs.Tallies.{counting};
 
-    ghost then = { counting };
+    ghost then = { counting (λ _. counts_more) };
+}
+
+pub struct HiresSender;
+
+impl<T: Drop> Play<Homes<T>, Knows<T>> for HiresSender {
+    ghost use Rattle.mb_channel.specs.Tallies.{counting, hires_sender};
+
+    ghost then = { counting (λ _. hires_sender) };
+}
+
+pub struct HiresReceiver;
+
+impl<T: Drop> Play<Homes<T>, Knows<T>> for HiresReceiver {
+    ghost use Rattle.mb_channel.specs.Tallies.{counting, hires_receiver};
+
+    ghost then = { counting (λ _. hires_receiver) };
+}
+
+pub struct RetiresSender;
+
+impl<T: Drop> Play<Homes<T>, Knows<T>> for RetiresSender {
+    ghost use Rattle.std.specs.Prelude.{nat_eq};
+    ghost use Rattle.mb_channel.specs.Tallies.{counting, retires_sender};
+
+    ghost then = { counting (λ r. retires_sender (nat_eq r 1)) };
+}
+
+pub struct RetiresReceiver;
+
+impl<T: Drop> Play<Homes<T>, Knows<T>> for RetiresReceiver {
+    ghost use Rattle.mb_channel.specs.Tallies.{counting, retires_receiver};
+
+    ghost then = { counting (λ _. retires_receiver) };
+}
+
+pub struct SeesSenders;
+
+impl<T: Drop> Play<Homes<T>, Knows<T>> for SeesSenders {
+    ghost use Rattle.mb_channel.specs.Tallies.{sees_senders};
+
+    ghost then = { sees_senders };
+}
+
+pub struct SeesMark;
+
+impl<T: Drop> Play<Homes<T>, Knows<T>> for SeesMark {
+    ghost use Rattle.mb_channel.specs.Tallies.{sees_mark};
+
+    ghost then = { sees_mark };
+}
+
+pub struct Closes;
+
+impl<T: Drop> Play<Homes<T>, Knows<T>> for Closes {
+    ghost use Rattle.mb_channel.specs.Tallies.{closing};
+
+    ghost then = { closing };
+}
+
+/// For how many senders and receivers a new end counts.
+pub trait Side {
+    ghost use Rattle.std.specs.Prelude.{ℕ};
+
+    ghost sends: { ℕ };
+
+    ghost receives: { ℕ };
+}
+
+pub struct AsSender;
+
+impl Side for AsSender {
+    ghost sends = { 1 };
+
+    ghost receives = { 0 };
+}
+
+pub struct AsReceiver;
+
+impl Side for AsReceiver {
+    ghost sends = { 0 };
+
+    ghost receives = { 1 };
+}
+
+pub struct Splits<S> {
+    of: PhantomData<S>,
+}
+
+impl<T: Drop, S: Side> Split<Knows<T>> for Splits<S> {
+    ghost use Rattle.mb_channel.specs.Homes.{newborn_view, splits_off};
+
+    ghost left = { splits_off S.sends S.receives };
+
+    ghost right = { newborn_view S.sends S.receives };
 }
 
 pub struct Ends;
-
-impl<T: Drop> Split<Knows<T>> for Ends {
-    ghost use Rattle.mb_channel.specs.Homes.{counts_less, newborn_view};
-
-    ghost left = { counts_less };
-
-    ghost right = { newborn_view };
-}
 
 impl<T: Drop> Join<Knows<T>> for Ends {
     ghost use Rattle.mb_channel.specs.Homes.{both, spent_view};

@@ -1,6 +1,6 @@
 //! Samples of the theorem's definitions: what they admit, and what only looks right. The functions compute nothing:
 //! their contracts are the samples.
-ghost use Rattle.std.specs.Prelude.{ℕ, [], ◌∷◌, ◌≡◌, true, false};
+ghost use Rattle.std.specs.Prelude.{ℕ, Some, [], ◌∷◌, ◌≡◌, true, false};
 ghost use Rattle.mb_channel.specs.ChannelSamples.{forgotten, one_sender, one_taken, overtaken, overtaken_life, swapped_life};
 ghost use Rattle.mb_channel.specs.ChannelSamples.{taken_twice, two_and_two, two_segments, two_taken, unheeded, unheeded_life, unheeded_take};
 ghost use Rattle.mb_channel.specs.ChannelSamples.{ended, refused_beside_a_receiver, told_beside_a_sender, told_too_soon, value_behind};
@@ -9,11 +9,12 @@ ghost use Rattle.mb_channel.specs.ChannelSamples.{sleepers, two_forsaken, two_wa
 ghost use Rattle.mb_channel.specs.ChannelTheorem.{EachBounded, EachMoment, WholeLife};
 ghost use Rattle.mb_channel.specs.ChannelSamples.{call, claim, entry, history, receiver, sender};
 ghost use Rattle.mb_channel.specs.LifeSamples.{TellsOf, by_passes, ends_for_passes, last_end, one_got, stay, two_ends, two_sent, two_stays};
-ghost use Rattle.mb_channel.specs.Homes.{IsDone, came_back};
+ghost use Rattle.mb_channel.specs.Homes.{IsDone, IsNext, came_back, first_view};
+ghost use Rattle.mb_channel.specs.Tallies.{IsTold};
 ghost use Rattle.mb_channel.specs.Types.{Home};
 ghost use Rattle.mb_channel.specs.Segments.{AreLogs, EachKeeps, InTurn, KeepsEnd, TakenInTurn};
 ghost use Rattle.mb_channel.specs.Stays.{AllBy, AllTo, AreApart, DidSo, Told, by_ends};
-ghost use Rattle.mb_channel.specs.Lives.{DoneInTurn, HaveEnded, end_in};
+ghost use Rattle.mb_channel.specs.Lives.{HaveEnded, end_in};
 
 /// Points 1 to 3. A life over two segments is admitted. Refused: values of one sender that stand in another order, a
 /// value that stands before one that its sender knew of, a value that two received, a take before one that its receiver
@@ -86,7 +87,7 @@ pub fn sample_stays()
 {}
 
 /// What two ends did, read off their visits. Refused: a value that is left where none can come, or that nobody sent; a
-/// segment that did not end; and one where no value can come, behind one where some can.
+/// segment that did not end; and a receiver that comes past one where values can come.
 pub fn sample_visits()
     ensures sends { (h g : Home ℕ) → came_back h ≡ one_got ∷ two_sent ∷ []
         → end_in last_end (h ∷ g ∷ []) 0
@@ -97,7 +98,15 @@ pub fn sample_visits()
     ensures done { (h : Home ℕ) → IsDone h → HaveEnded (h ∷ []) ((11 ∷ []) ∷ []) → ⊥ }
     ensures unsent { (h : Home ℕ) → came_back h ≡ [] → HaveEnded (h ∷ []) ((11 ∷ []) ∷ []) → ⊥ }
     ensures forgotten { (h : Home ℕ) → HaveEnded (h ∷ []) [] → ⊥ }
-    ensures in_turn { (h g i : Home ℕ) → IsDone h → DoneInTurn (h ∷ g ∷ i ∷ []) }
-    ensures turned { (h g i : Home ℕ) → (IsDone h → ⊥) → IsDone g
-        → DoneInTurn (h ∷ g ∷ i ∷ []) → ⊥ }
+    ensures next { (h g : Home ℕ) → IsDone h → IsNext (h ∷ g ∷ []) 1 }
+    ensures past { (h g : Home ℕ) → (IsDone h → ⊥) → IsDone g → IsNext (h ∷ g ∷ []) 2 → ⊥ }
+{}
+
+/// An end is told "closed" where it saw that no sender is left, or that the list is closed. Refused: that it saw neither.
+pub fn sample_told()
+    ensures alone { IsTold 2 (first_view {T = ℕ})
+        (record first_view { alone = true; last = Some 2 }) }
+    ensures shut { IsTold 2 (first_view {T = ℕ})
+        (record first_view { shut = true; last = Some 2 }) }
+    ensures neither { IsTold 2 (first_view {T = ℕ}) (record first_view { last = Some 2 }) → ⊥ }
 {}

@@ -100,12 +100,11 @@ fn run_four<R: Threads + Wait + Abort + Sync>(
     alloc: Global,
     many: u64,
 ) -> Result<(u64, bool), AllocError> {
-    let (channel, mut first) = Channel::<u64>::new(alloc)?;
+    let (channel, mut c, mut first) = Channel::<u64>::new(alloc)?;
     let w = &channel;
     let a = w.another_receiver(rt, &mut first).expect(rt, "an end");
     let b = w.another_receiver(rt, &mut first).expect(rt, "an end");
-    let c = w.sender(rt, &mut first).expect(rt, "an end");
-    let d = w.sender(rt, &mut first).expect(rt, "an end");
+    let d = w.another_sender(rt, &mut c).expect(rt, "an end");
     let ((x, y), (c, d)) = join(
         rt,
         move || -> ((u64, Receiver<u64>), (u64, Receiver<u64>))
@@ -134,8 +133,7 @@ fn two_send_and_two_receive(rt: HostRuntime) -> Result<(), Fail> {
 
 #[test]
 fn one_end_after_the_other(rt: HostRuntime) -> Result<(), Fail> {
-    let (channel, mut receiver) = Channel::<u64>::new(rt.alloc())?;
-    let mut sender = channel.sender(&rt, &mut receiver).expect(&rt, "an end");
+    let (channel, mut sender, mut receiver) = Channel::<u64>::new(rt.alloc())?;
     let mut other = channel
         .another_sender(&rt, &mut sender)
         .expect(&rt, "an end");

@@ -16,8 +16,10 @@ pub struct Past<T> {
 }
 
 pub struct Knows<T: Drop> {
-    /// How many ends it counts for.
+    /// How many ends, senders and receivers it counts for.
     pub rights: u64,
+    pub sends: u64,
+    pub receives: u64,
     /// Whether it has a number.
     pub live: bool,
     pub number: u64,
@@ -34,4 +36,12 @@ pub struct Knows<T: Drop> {
     /// Whether it has the lock, and all segments that there ever were.
     pub holds: bool,
     pub before: LinkedList<Home<T>>,
+    /// Whether it has the lock, and saw that the list is not closed.
+    pub may_add: bool,
+    /// Whether no sender is left.
+    pub alone: bool,
+    /// Whether the list is closed.
+    pub shut: bool,
+    /// It was told that there are so many segments, and never more.
+    pub last: Option<u64>,
 }

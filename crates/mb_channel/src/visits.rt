@@ -1,10 +1,11 @@
 //! An end comes to a segment of the list, and leaves it.
-ghost use Rattle.std.specs.Prelude.{◌≡◌, ◌<◌, [], true, false, IfOk, IfErr};
+ghost use Rattle.std.specs.Prelude.{◌≡◌, ◌<◌, ◌≤◌, ◌⊎◌, [], length, true, false, IfOk, IfErr};
 ghost use Rattle.std.specs.Arc.{arc_value};
 ghost use Rattle.mb_segment.specs.Seats.{view_in as pass_view};
 ghost use Rattle.mb_segment.specs.Vocabulary.{IsFree, blank};
 ghost use Rattle.mb_channel.specs.Homes.{At, Changes, HasIssued, HasTakenBack, HoldsHomes, IsNext, IsPassOf, IsReady};
 ghost use Rattle.mb_channel.specs.Homes.{MayGive, came_to, left_segment, out_of, unlocked, view_in, went_on};
+ghost use Rattle.mb_channel.specs.Tallies.{IsTold, told_last};
 ghost use Rattle.mb_channel.specs.Answers.{OfCame};
 
 use crate::answers::Came;
@@ -72,8 +73,8 @@ impl<T: Drop> List<T> {
     }
 
     /// Leaves the segment at this place, to which the pass belongs. `over` says whether the pass saw that no value can
-    /// come any more. It tells whether some pass did: then the end may receive in the next segment. It gives the pass
-    /// back in `Err` if the lock is taken.
+    /// come any more. It tells whether some pass did: then the end may receive in the next segment, if it could in this
+    /// one. It gives the pass back in `Err` if the lock is taken.
     pub fn leave(
         &self,
         chair: &mut Chair<T>,
@@ -112,6 +113,9 @@ impl<T: Drop> List<T> {
             × (pass_view p ≡ blank) × IsFree p)
             (λ k. HoldsHomes chair.new.me (λ hs. hs ≡ (view_in chair.old).before)
             × (at < k) × IsNext (view_in chair.old).before k)
+            (HoldsHomes chair.new.me (λ hs. hs ≡ (view_in chair.old).before)
+            × (length (view_in chair.old).before ≤ at))
+            ⊥
             (HoldsHomes chair.new.me (λ hs. hs ≡ (view_in chair.old).before)) }
     {
         let homes = chair.slot_mut(&self.table.shared, 0);
@@ -170,6 +174,46 @@ impl<T: Drop> List<T> {
         self.give::<F>(chair);
     }
 
+    /// Tells an end that it is behind the last segment, for ever, and gives the lock back.
+    fn tell_last<F: Change<T>>(&self, chair: &mut Chair<T>, last: usize)
+        requires list { chair.old.table_id ≡ self.now.table.shared.table_id }
+        requires picked { F.of ≡ told_last last }
+        requires held { ((view_in chair.old).live ≡ true) × ((view_in chair.old).holds ≡ true) }
+        requires homes { HoldsHomes chair.old.me (λ hs. hs ≡ (view_in chair.old).before) }
+        requires last { length (view_in chair.old).before ≡ last }
+        requires seen { ((view_in chair.old).shut ≡ true) ⊎ ((view_in chair.old).alone ≡ true) }
+        ensures list { (chair.new.table_id ≡ chair.old.table_id) × (chair.new.id ≡ chair.old.id) }
+        ensures view { (view_in chair.new ≡ told_last last (unlocked (view_in chair.old)))
+            × (chair.new.me.1 ≡ []) }
+    {
+        let _ = last;
+        self.give::<F>(chair);
+    }
+
+    /// Tells an end that is behind the last segment whether one may still come, and gives the lock back.
+    fn tell(&self, chair: &mut Chair<T>, at: usize) -> Came<T>
+        requires list { chair.old.table_id ≡ self.now.table.shared.table_id }
+        requires held { ((view_in chair.old).live ≡ true) × ((view_in chair.old).holds ≡ true) }
+        requires homes { HoldsHomes chair.old.me (λ hs. hs ≡ (view_in chair.old).before) }
+        requires last { length (view_in chair.old).before ≡ at }
+        ensures list { (chair.new.table_id ≡ chair.old.table_id) × (chair.new.id ≡ chair.old.id) }
+        ensures answer { OfCame result (λ _ _. ⊥) (λ _. ⊥)
+            ((chair.new.me.1 ≡ []) × (view_in chair.new ≡ unlocked (view_in chair.old)))
+            ((chair.new.me.1 ≡ []) × IsTold at (unlocked (view_in chair.old)) (view_in chair.new))
+            ⊥ }
+    {
+        if self.sees_closed(chair) {
+            self.tell_last::<Brand>(chair, at);
+            return Came::Closed;
+        }
+        if self.sees_no_sender(chair) {
+            self.tell_last::<Brand>(chair, at);
+            return Came::Closed;
+        }
+        self.unlock(chair);
+        Came::NotYet
+    }
+
     /// Comes to the segment at this place, to receive too or to send alone.
     pub fn come(&self, chair: &mut Chair<T>, at: usize, takes: bool) -> Came<T>
         requires list { chair.old.table_id ≡ self.now.table.shared.table_id }
@@ -184,6 +228,8 @@ impl<T: Drop> List<T> {
             × (pass_view p ≡ blank) × IsFree p)
             (λ k. (at < k) × (chair.new.me.1 ≡ [])
             × (view_in chair.new ≡ went_on k (unlocked (view_in chair.old))))
+            (chair.new.me ≡ chair.old.me)
+            ((chair.new.me.1 ≡ []) × IsTold at (view_in chair.old) (view_in chair.new))
             (chair.new.me ≡ chair.old.me) }
     {
         if !self.try_lock(chair) {
@@ -198,9 +244,10 @@ impl<T: Drop> List<T> {
                 self.go_on::<Brand>(chair, first);
                 Came::Gone(first)
             }
-            Came::NotYet => {
+            Came::NotYet => self.tell(chair, at),
+            Came::Closed => {
                 self.unlock(chair);
-                Came::NotYet
+                Came::Closed
             }
             Came::Crowded => {
                 self.unlock(chair);

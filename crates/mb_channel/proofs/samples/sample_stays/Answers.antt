@@ -1,4 +1,4 @@
-use Rattle.std.proofs.Common.{rules, ℕ, List, [], ◌∷◌, ◌++◌, length, map, refl, ap, inl, inr, ⊎_elim, arith, ◌∙◌}
+use Rattle.std.proofs.Common.{rules, ℕ, List, [], ◌++◌, length, map, refl, ap, inl, inr, ⊎_elim, arith, ◌∙◌}
 use Rattle.mb_channel.specs.LifeSamples.{by_passes, two_stays}
 use Rattle.mb_channel.specs.Stays.{Stay, Told, log_of, moved_by}
 use Rattle.mb_channel.proofs.samples.sample_stays.Goals as goal

@@ -39,13 +39,10 @@ returns-clause-unsent c h e x = let w = subst (λ xs. IsToldWhole xs (11 ∷ [])
     let f = first_entry w.history.claims w.history.rest w.left_is in
     no_one w.history w.numbers f.0.by w.accounts_ (w.senders 0 f.0 f.1)
 
-pub returns-clause-in_turn : goal.returns-clause-in_turn
-returns-clause-in_turn c h g i done zero k le lt at = (h, refl, done)
-returns-clause-in_turn c h g i done (suc zero) zero le lt at = absurd (omega (arith, le))
-returns-clause-in_turn c h g i done (suc zero) (suc zero) le lt at = at
-returns-clause-in_turn c h g i done (suc zero) (suc (suc k)) le lt at = absurd (omega (arith, lt))
-returns-clause-in_turn c h g i done (suc (suc j)) k le lt at = absurd (omega (arith, le, lt))
+pub returns-clause-next : goal.returns-clause-next
+returns-clause-next c h g done zero lt = (h, refl, done)
+returns-clause-next c h g done (suc j) lt = absurd (omega (arith, lt))
 
-pub returns-clause-turned : goal.returns-clause-turned
-returns-clause-turned c h g i no_ done turn = let r = turn 0 1 (omega arith) (omega arith) (g, refl, done) in
+pub returns-clause-past : goal.returns-clause-past
+returns-clause-past c h g no_ done next = let r = next 0 (omega arith) in
     no_ (subst (λ x. IsDone x) (sym (some-injective h r.0 r.1)) r.2)

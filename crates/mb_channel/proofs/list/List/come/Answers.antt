@@ -1,7 +1,8 @@
-use Rattle.std.proofs.Common.{sym, ap, ◌∙◌, ◌<◌, subst, inl}
+use Rattle.std.proofs.Common.{arith, sym, ap, length, ◌∙◌, ◌<◌, subst, inl}
 use Rattle.mb_channel.specs.declared.view.Knows.{Knows}
 use Rattle.mb_channel.specs.Homes.{Changes, HasIssued, IsNext, came_to, unlocked, went_on}
 use Rattle.mb_channel.proofs.Chairs.{came_where}
+use Rattle.mb_channel.proofs.Closing.{near_last}
 use Rattle.mb_channel.proofs.list.List.come.Goals as goal
 
 pub get_pass-requires-clause-homes : goal.get_pass-requires-clause-homes
@@ -54,8 +55,20 @@ go_on-requires-clause-far g c = let x = c.try_lock.ensures.locked c.if-not-try_l
     )
 
 pub unlock-requires-clause-homes : goal.unlock-requires-clause-homes
-unlock-requires-clause-homes g c = let y = c.in-NotYet.ensures.answer in
-    (y.0, y.1, y.2, y.3, inl (y.4 ∙ ap (λ (v : Knows _). v.before) (sym c.get_pass.ensures.view)))
+unlock-requires-clause-homes g c = absurd c.in-Closed.ensures.answer
+
+pub tell-requires-clause-homes : goal.tell-requires-clause-homes
+tell-requires-clause-homes g c = let y = c.in-NotYet.ensures.answer.0 in
+    (y.0, y.1, y.2, y.3, y.4 ∙ ap (λ (v : Knows _). v.before) (sym c.get_pass.ensures.view))
+
+pub tell-requires-clause-last : goal.tell-requires-clause-last
+tell-requires-clause-last g c = let x = c.try_lock.ensures.locked c.if-not-try_lock.false in
+    let behind = c.in-NotYet.ensures.answer.1 in
+    let near = near_last x.2 c.args.chair.now.me.0.at x.4.0.0 in
+    let here = c.requires.here.0 in
+    let old = ap (λ (v : Knows _). length v.before) x.4.1 in
+    let now = ap (λ (v : Knows _). length v.before) c.get_pass.ensures.view in
+    omega arith
 
 pub unlock-requires-in-Crowded-clause-homes : goal.unlock-requires-in-Crowded-clause-homes
 unlock-requires-in-Crowded-clause-homes g c = let y = c.in-Crowded.ensures.answer in

@@ -1,4 +1,4 @@
-use Rattle.mb_channel.proofs.Back.{closes}
+use Rattle.mb_channel.proofs.Whole.{closes}
 use Rattle.std.proofs.Common.{sym, ◌∙◌}
 use Rattle.mb_channel.proofs.list.List.end.Goals as goal
 

@@ -1,8 +1,8 @@
-use Rattle.std.proofs.Common.{sym, ap, ◌∙◌, ◌∷◌, subst, arith}
+use Rattle.std.proofs.Common.{sym, ap, length, ◌∙◌, ◌∷◌, ◌≤◌, subst, arith}
 use Rattle.atomic_table.specs.Table.{rest}
 use Rattle.mb_channel.specs.Homes.{Changes, HasIssued, IsNext, Stands}
 use Rattle.mb_channel.proofs.Chairs.{only_one, was}
-use Rattle.mb_channel.proofs.Freed.{changes_all, next_is, stands_same}
+use Rattle.mb_channel.proofs.Freed.{behind_all, changes_all, next_is, stands_same}
 use Rattle.mb_channel.proofs.list.List.get_pass.Goals as goal
 
 pub slot_mut-homes-requires : goal.slot_mut-homes-requires
@@ -22,7 +22,7 @@ returns-then-at-homes-clause-answer g c = let t = c.requires.homes in let lt = c
     let s = subst (λ l. Stands t.2 l) (sym same) t.3 in (
       (now, only_one c.args.chair.now.me.1 t.0 now t.1, t.2, s, t.4),
       lt,
-      subst (λ x. IsNext x now.first) t.4 (next_is t.2 now s (omega arith)),
+      subst (λ x. IsNext x now.first) t.4 (next_is t.2 now s),
     )
 
 pub returns-in-Some-clause-answer : goal.returns-in-Some-clause-answer
@@ -60,4 +60,7 @@ pub returns-else-at-homes-2-clause-answer : goal.returns-else-at-homes-2-clause-
 returns-else-at-homes-2-clause-answer g c = let t = c.requires.homes in
     let now = c.slot_mut-homes.result.now in
     let same = was c.args.chair.now.me.1 t.0 now t.1 c.slot_mut-homes.ensures.value in
-    (now, only_one c.args.chair.now.me.1 t.0 now t.1, t.2, subst (λ l. Stands t.2 l) (sym same) t.3, t.4)
+    let s = subst (λ l. Stands t.2 l) (sym same) t.3 in (
+      (now, only_one c.args.chair.now.me.1 t.0 now t.1, t.2, s, t.4),
+      subst (λ l. length l ≤ c.args.at) t.4 (behind_all t.2 now c.args.at s (omega arith) (omega arith)),
+    )

@@ -1,0 +1,216 @@
+-- An end sees that no sender is left or that the list is closed, closes it, and is told that it never grows any more.
+use Rattle.std.proofs.Common.{ℕ, zero, suc, Bool, true, false, true≢false, List, [], length, sym, refl, ap, subst, inl, inr, ⊎_elim, arith}
+use Rattle.std.proofs.Common.{◌≡◌, ◌≢◌, ◌<◌, ◌≤◌, ◌⊎◌, ◌∷◌, ◌∙◌}
+use Rattle.std.specs.Prelude.{Option, Some, slice_set, slice_index}
+use mathlib.Core.Option.{some, none}
+use lib.ListN.{get_elem?}
+use native.Mathlib.Decide.{ℕ_discrete}
+use Rattle.atomic_table.specs.Table.{State, Act, keeps, step, stepped, Allows, Valid, carried_after}
+use Rattle.mb_channel.specs.Types.{Home, Homes, Knows}
+use Rattle.mb_channel.specs.Homes.{Agrees, Grows, IsIn, IsNear, IsNext, IsShut, Keeps, MayGive, Sat, Stands}
+use Rattle.mb_channel.specs.Homes.{is_in, sends, tallies, total, unlocked}
+use Rattle.mb_channel.specs.Tallies.{closing, saw_closed, saw_none, sees_mark, sees_senders, told_last}
+use Rattle.mb_channel.proofs.Members.{lock_view, senders_word, mark_word, set_same, tallies_stay, unchanged}
+use Rattle.mb_channel.proofs.Moves.{AllFitEnd, busy_same, ended_stay, grows_same, has_part, moved, tallies_set, told_same, unlocks}
+use Rattle.mb_channel.proofs.Views.{there, total_set}
+
+some_number : (n : ℕ) → n ≢ 0 → 0 < n
+some_number zero ne = absurd (ne refl)
+some_number (suc n) ne = omega arith
+
+some_is : (a b : ℕ) → Some a ≡ Some b → a ≡ b
+some_is a b e = ap (λ (o : Option ℕ). Rattle.std.specs.Option.unwrap_or o a) e
+
+module _ {T : Type 0} where
+  -- a step that changes what the view says of the senders and the mark alone
+  abbrev noticed : Bool → Bool → Bool → Knows T → Knows T
+  noticed a b c v = record v { may_add = a; alone = b; shut = c }
+
+  notices : (s : State (Homes T) (Knows T)) (k : Keeps s) (id : ℕ) (v : Knows T) (a b c : Bool) (words : List ℕ)
+      (mark : ℕ) → get_elem? s.views id ≡ some v → v.live ≡ true
+      → ((lock : ℕ) → s.words ≡ lock ∷ tallies s.views k.mark
+      → words ≡ lock ∷ tallies (slice_set s.views id (noticed a b c v)) mark)
+      → AllFitEnd s k id (noticed a b c v) k.homes mark
+      → Keeps record { words = words; homes = s.homes; views = slice_set s.views id (noticed a b c v) }
+  notices s k id v a b c words mark at live same tells =
+      let w = noticed a b c v in
+      let f = k.fits id v at in
+      let part = has_part k.homes k.all s.views id v f live in
+      moved s k id v w at part k.homes k.all mark (grows_same k.homes) k.agrees (λ n _. refl)
+      (λ g. omega arith) (λ m h e. busy_same s k m (is_in m v) h e)
+      record {
+        named = f.named;
+        falls = f.falls;
+        near = f.near;
+        inside = f.inside;
+        takes = f.takes;
+        newborn = λ l. absurd (true≢false (sym live ∙ l));
+        idle = λ z. absurd (omega arith);
+        ended = ended_stay s k id v w at part k.all (λ n _. refl);
+      }
+      tells words s.homes (lock_view s k.homes k.mark mark words id v w at refl refl same k.lock)
+
+  -- a word that is loaded
+  loaded : (s : State (Homes T) (Knows T)) (k : Keeps s) (id i : ℕ) (v w : Knows T) → get_elem? s.views id ≡ some v
+      → w.rights ≡ v.rights → w.sends ≡ v.sends → w.receives ≡ v.receives → (lock : ℕ)
+      → s.words ≡ lock ∷ tallies s.views k.mark
+      → slice_set s.words i (slice_index s.words i) ≡ lock ∷ tallies (slice_set s.views id w) k.mark
+  loaded s k id i v w at a b c lock e = set_same s.words i ∙ tallies_stay s k.mark id v w at a b c lock e
+
+  pub sees_whether : (slots id : ℕ) (me : Sat T) → me.0.live ≡ true
+      → Allows Keeps slots id me 2 (λ n. n) (sees_senders (step slots 2 0 0 none) me)
+  sees_whether slots id me live s k len at small = go (ℕ_discrete (slice_index s.words 2) 0)
+    where
+      go : Dec (slice_index s.words 2 ≡ 0) → (w : Knows T) × (a : Act (Homes T)) × Valid s.homes me.1 a
+          × Keeps (stepped s 2 (slice_index s.words 2) id me.1 w a)
+          × sees_senders (step slots 2 0 0 none) me (slice_index s.words 2) (w, carried_after me.1 a)
+      go (yes e) = let v = me.0 in let t = k.told id v at in let w = saw_none v in
+          let gone : total sends s.views ≡ 0 = sym (senders_word s k) ∙ e in
+          let b = total_set sends s.views id v w at in
+          let now : total sends (slice_set s.views id w) ≡ 0 = omega arith in (
+            w,
+            keeps,
+            tt,
+            notices s k id v v.may_add true v.shut (slice_set s.words 2 (slice_index s.words 2)) k.mark at live
+                (loaded s k id 2 v w at refl refl refl) (
+                  (λ j u ne at'. told_same k.homes k.homes k.mark s.views (slice_set s.views id w) u refl (λ _. now)
+                      (k.told j u at')),
+                  record {
+                    may_add = t.may_add;
+                    alone = λ _. now;
+                    shut = t.shut;
+                    last = λ n q. ((t.last n q).0, inr now);
+                  },
+                ),
+            (refl, (λ _. refl), λ ne. absurd (ne e)),
+          )
+      go (no ne) = (me.0, keeps, tt, unchanged s k id 2 me.0 at, (refl, (λ e. absurd (ne e)), λ _. refl))
+
+  -- it sees the mark, and no other number
+  sees_it : (s : State (Homes T) (Knows T)) (k : Keeps s) (id : ℕ) (v : Knows T) (a c : Bool)
+      → get_elem? s.views id ≡ some v → (a ≡ true → (v.holds ≡ true) × (0 < k.mark)) → (c ≡ true → k.mark ≡ 0)
+      → AllFitEnd s k id (noticed a v.alone c v) k.homes k.mark
+  sees_it s k id v a c at may_add shut =
+      let t = k.told id v at in
+      let w = noticed a v.alone c v in
+      let b = total_set sends s.views id v w at in
+      let same : total sends (slice_set s.views id w) ≡ total sends s.views = omega arith in
+      let x = told_same k.homes k.homes k.mark s.views (slice_set s.views id w) v refl (λ q. same ∙ q) t in (
+        (λ j u ne at'. told_same k.homes k.homes k.mark s.views (slice_set s.views id w) u refl (λ q. same ∙ q)
+            (k.told j u at')),
+        record { may_add = may_add; alone = x.alone; shut = shut; last = x.last },
+      )
+
+  pub sees_marked : (slots id : ℕ) (me : Sat T) → me.0.live ≡ true
+      → Allows Keeps slots id me 4 (λ n. n) (sees_mark (step slots 4 0 0 none) me)
+  sees_marked slots id me live s k len at small = go (ℕ_discrete (slice_index s.words 4) 0)
+    where
+      go : Dec (slice_index s.words 4 ≡ 0) → (w : Knows T) × (a : Act (Homes T)) × Valid s.homes me.1 a
+          × Keeps (stepped s 4 (slice_index s.words 4) id me.1 w a)
+          × sees_mark (step slots 4 0 0 none) me (slice_index s.words 4) (w, carried_after me.1 a)
+      go (yes e) = let v = me.0 in (
+        saw_closed v,
+        keeps,
+        tt,
+        notices s k id v v.may_add v.alone true (slice_set s.words 4 (slice_index s.words 4)) k.mark at live
+            (loaded s k id 4 v (saw_closed v) at refl refl refl)
+            (sees_it s k id v v.may_add true at (k.told id v at).may_add (λ _. sym (mark_word s k) ∙ e)),
+        (refl, (λ _. refl), λ ne. absurd (ne e)),
+      )
+      go (no ne) = let v = me.0 in let w : Knows T = record v { may_add = v.holds } in (
+        w,
+        keeps,
+        tt,
+        notices s k id v v.holds v.alone v.shut (slice_set s.words 4 (slice_index s.words 4)) k.mark at live
+            (loaded s k id 4 v w at refl refl refl)
+            (sees_it s k id v v.holds v.shut at
+            (λ q. (q, some_number k.mark (λ z. ne (mark_word s k ∙ z)))) (k.told id v at).shut),
+        (refl, (λ e. absurd (ne e)), λ _. refl),
+      )
+
+  -- nobody else has the lock
+  one_holds : (s : State (Homes T) (Knows T)) (k : Keeps s) (i j : ℕ) (u v : Knows T) → get_elem? s.views i ≡ some u
+      → get_elem? s.views j ≡ some v → u.holds ≡ true → v.holds ≡ true → i ≡ j
+  one_holds s k i j u v at at' a b = ⊎_elim
+      (λ free. absurd (true≢false (sym a ∙ free.4 i u at)))
+      (λ held. (held.3 i u at a).0 ∙ sym (held.3 j v at' b).0)
+      k.lock
+
+  pub closes_list : (slots id : ℕ) (me : Sat T) → me.0.live ≡ true → me.0.holds ≡ true
+      → Allows Keeps slots id me 4 (λ _. 0) (λ _. closing (step slots 4 0 0 none) me 0)
+  closes_list slots id me live holds s k len at small =
+      let v = me.0 in
+      let w : Knows T = record v { may_add = false; shut = true } in
+      let t = k.told id v at in
+      let b = total_set sends s.views id v w at in
+      let same : total sends (slice_set s.views id w) ≡ total sends s.views = omega arith in (
+        w,
+        keeps,
+        tt,
+        notices s k id v false v.alone true (slice_set s.words 4 0) 0 at live
+            (λ lock e. ap (λ l. slice_set l 4 0) e ∙ ap (λ l. lock ∷ l)
+            (sym (tallies_set s.views id v w 0 at refl refl refl))) (
+              (λ j u ne at'. let x = k.told j u at' in record {
+                may_add = λ q. absurd (ne (one_holds s k j id u v at' at (x.may_add q).0 holds));
+                alone = λ q. same ∙ x.alone q;
+                shut = λ _. refl;
+                last = λ n q. ((x.last n q).0, inl refl);
+              }),
+              record {
+                may_add = λ q. absurd (true≢false (sym q));
+                alone = λ q. same ∙ t.alone q;
+                shut = λ _. refl;
+                last = λ n q. ((t.last n q).0, inl refl);
+              },
+            ),
+        (refl, refl),
+      )
+
+  -- it gives the lock back, and is told
+  pub unlocks_told : (n slots id : ℕ) (me : Sat T) (y : Homes T) (hs : List (Home T)) → Stands hs y
+      → me.1 ≡ (0, y) ∷ [] → me.0.live ≡ true → me.0.holds ≡ true → hs ≡ me.0.before → length me.0.before ≡ n
+      → (me.0.shut ≡ true) ⊎ (me.0.alone ≡ true) → MayGive (told_last n) slots id me
+  unlocks_told n slots id me y hs stands carried live holds is size seen = unlocks
+      (told_last n) slots id me y hs stands carried live holds refl refl refl refl
+      (λ s k at part before.
+      let v = me.0 in
+      let f = k.fits id v at in
+      let w = told_last n (unlocked v) in
+      let now : k.homes ≡ hs = sym before ∙ sym is in
+      let b = total_set sends s.views id v w at in
+      let same : total sends (slice_set s.views id w) ≡ total sends s.views = omega arith in
+      let long : length hs ≡ length k.homes = ap length (sym now) in
+      let t = told_same k.homes hs k.mark s.views (slice_set s.views id w) v long (λ q. same ∙ q) (k.told id v at) in
+      let never : IsShut k.mark (slice_set s.views id w) = ⊎_elim (λ q. inl (t.shut q)) (λ q. inr (t.alone q)) seen in (
+        k.all,
+        subst (λ l. Grows k.homes l) now (grows_same k.homes),
+        subst (λ l. Agrees l k.all) now k.agrees,
+        (λ j _. refl),
+        (λ g. omega arith),
+        (λ m h e. busy_same s k m (is_in m v) h (ap (λ l. get_elem? l m) now ∙ e)),
+        record {
+          named = f.named;
+          falls = f.falls;
+          near = subst (λ l. IsNear l v.at) now f.near;
+          inside = λ q. subst (λ l. IsIn l v) now (f.inside q);
+          takes = λ q. subst (λ l. IsNext l v.at) now (f.takes q);
+          newborn = f.newborn;
+          idle = λ z. absurd (omega arith);
+          ended = ended_stay s k id v w at part k.all (λ j _. refl);
+        },
+        (
+          (λ j u ne at'. told_same k.homes hs k.mark s.views (slice_set s.views id w) u long (λ q. same ∙ q)
+              (k.told j u at')),
+          record {
+            may_add = λ q. absurd (true≢false (sym q));
+            alone = t.alone;
+            shut = t.shut;
+            last = λ m q. (ap length is ∙ size ∙ some_is n m q, never);
+          },
+        ),
+      ))
+
+  -- an end is no further than behind the last segment
+  pub near_last : (hs : List (Home T)) (k : ℕ) → IsNear hs k → k ≤ length hs
+  near_last hs k near = ⊎_elim (λ e. omega arith)
+      (λ t. let e = t.1 in let i = there hs t.0 t.2.0 t.2.1 in omega arith) near

@@ -1,0 +1,21 @@
+use Rattle.std.proofs.Common.{subst, sym, ◌∙◌, ◌<◌}
+use mathlib.Core.Option.{some-injective}
+use Rattle.mb_channel.specs.Types.{Home}
+use Rattle.mb_channel.specs.Homes.{IsDone}
+use Rattle.mb_channel.specs.Closing.{IsFinished}
+use Rattle.mb_channel.proofs.Freed.{all_homes}
+use Rattle.mb_channel.proofs.Views.{there}
+use Rattle.mb_channel.proofs.laws.closed_is_true.Goals as goal
+
+pub returns-clause-last : goal.returns-clause-last
+returns-clause-last g c s k id n v at is = (k.told id v at).last n is
+
+pub returns-clause-empty : goal.returns-clause-empty
+returns-clause-empty g c s k id n v at is takes here = all_homes k.homes IsFinished (λ j h e.
+    let lt : j < v.at = subst (λ m. j < m) (((k.told id v at).last n is).0 ∙ sym here) (there k.homes j h e) in
+    let d = (k.fits id v at).takes takes j lt in
+    let done = subst (λ (x : Home _). IsDone x) (some-injective d.0 h (sym d.1 ∙ e)) d.2 in
+    λ s k n view. let o = c.over_is_true.ensures.over s k n _ view done in (o.0, o.2))
+
+pub returns-clause-alone : goal.returns-clause-alone
+returns-clause-alone g c s k id v at is = (k.told id v at).alone is

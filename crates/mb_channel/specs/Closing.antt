@@ -1,0 +1,13 @@
+-- What "closed" says of the segments, for ever.
+use Rattle.std.specs.Prelude.{ℕ, [], ◌≡◌}
+use Rattle.atomic_table.specs.Table.{State}
+use Rattle.mb_segment.specs.Vocabulary.{IsOver, IsViewOf, Keeps, SegmentState, hub_view}
+use Rattle.mb_channel.specs.Types.{Home, Homes, Knows}
+
+abbrev pub ListState : Type 0 → Type 0
+ListState T = State (Homes T) (Knows T)
+
+-- whatever state its table is in, if the hub knows this: nothing waits in the segment, and nothing can be sent there
+abbrev pub IsFinished : {T : Type 0} → Home T → Type 0
+IsFinished {T} h = (s : SegmentState T) (k : Keeps s) (n : ℕ) → IsViewOf s n (hub_view h.hub)
+    → IsOver s × (k.history.rest ≡ [])

@@ -1,0 +1,52 @@
+-- The numbers of ends, senders and receivers, and the end of the list.
+use Rattle.std.specs.Prelude.{ℕ, Bool, Some, false, true, ◌+◌, ◌-◌, ◌≡◌, ◌≢◌, ◌⊎◌}
+use Rattle.atomic_table.specs.Table.{Step}
+use Rattle.mb_channel.specs.Types.{Homes, Knows}
+use Rattle.mb_channel.specs.Homes.{Sat}
+
+-- it counts for one sender or receiver more, or less. Whoever retires the last sender knows that
+abbrev pub hires_sender : {T : Type 0} → Knows T → Knows T
+hires_sender v = record v { sends = v.sends + 1 }
+
+abbrev pub hires_receiver : {T : Type 0} → Knows T → Knows T
+hires_receiver v = record v { receives = v.receives + 1 }
+
+abbrev pub retires_sender : {T : Type 0} → Bool → Knows T → Knows T
+retires_sender last v = record v { sends = v.sends - 1; alone = last }
+
+abbrev pub retires_receiver : {T : Type 0} → Knows T → Knows T
+retires_receiver v = record v { receives = v.receives - 1 }
+
+-- an exchange of a number changes the view so
+abbrev pub counting : {T : Type 0} → (ℕ → Knows T → Knows T) → Step (Homes T) → Sat T → ℕ → Sat T → Type 0
+counting f st m r n = (n.1 ≡ m.1) × (r ≡ st.first → n.0 ≡ f r m.0) × (r ≢ st.first → n.0 ≡ m.0)
+
+-- it saw that no sender is left, or that the list is closed
+abbrev pub saw_none : {T : Type 0} → Knows T → Knows T
+saw_none v = record v { alone = true }
+
+abbrev pub saw_closed : {T : Type 0} → Knows T → Knows T
+saw_closed v = record v { shut = true }
+
+-- it saw that the list is not closed. While it has the lock, that stays so
+abbrev pub saw_open : {T : Type 0} → Knows T → Knows T
+saw_open v = record v { may_add = v.holds }
+
+-- a load of the number of senders, and of the mark
+abbrev pub sees_senders : {T : Type 0} → Step (Homes T) → Sat T → ℕ → Sat T → Type 0
+sees_senders st m r n = (n.1 ≡ m.1) × (r ≡ 0 → n.0 ≡ saw_none m.0) × (r ≢ 0 → n.0 ≡ m.0)
+
+abbrev pub sees_mark : {T : Type 0} → Step (Homes T) → Sat T → ℕ → Sat T → Type 0
+sees_mark st m r n = (n.1 ≡ m.1) × (r ≡ 0 → n.0 ≡ saw_closed m.0)
+    × (r ≢ 0 → n.0 ≡ saw_open m.0)
+
+-- the end that has the lock closes the list
+abbrev pub closing : {T : Type 0} → Step (Homes T) → Sat T → ℕ → Sat T → Type 0
+closing st m r n = (n.1 ≡ m.1) × (n.0 ≡ record m.0 { may_add = false; shut = true })
+
+-- it is told that there are just n segments, for ever: it saw that the list is closed or that no sender is left
+abbrev pub told_last : {T : Type 0} → ℕ → Knows T → Knows T
+told_last n v = record v { last = Some n }
+
+abbrev pub IsTold : {T : Type 0} → ℕ → Knows T → Knows T → Type 0
+IsTold n v w = (w ≡ told_last n (saw_closed v)) ⊎ (w ≡ told_last n (saw_none v))
