@@ -53,7 +53,7 @@ impl<T: Drop> Channel<T> {
             at: _,
             rights,
             inside: _,
-        } = self.out(rt, end);
+        } = self.outside(rt, end);
         let Channel { list, alloc } = self;
         let homes = list.end_all(chair, rights)?;
         Some(Ending::new(homes, alloc))

@@ -57,7 +57,7 @@ impl<T: Drop> Channel<T> {
     {
         let mut seen: u64 = 1;
         for _ in rt.forever() {
-            if seen == u64::MAX {
+            if seen >= u64::MAX {
                 return false;
             }
             let found = self.count(end, seen);
@@ -106,7 +106,7 @@ impl<T: Drop> Channel<T> {
     {
         let mut seen: u64 = 1;
         for _ in rt.forever() {
-            if seen == u64::MAX {
+            if seen >= u64::MAX {
                 return false;
             }
             let found = self.list.hire_sender(&mut sender.end.chair, seen, seen + 1);
@@ -129,7 +129,7 @@ impl<T: Drop> Channel<T> {
     {
         let mut seen: u64 = 1;
         for _ in rt.forever() {
-            if seen == u64::MAX {
+            if seen >= u64::MAX {
                 return false;
             }
             let found = self
@@ -144,7 +144,7 @@ impl<T: Drop> Channel<T> {
     }
 
     /// The end, once it has left its segment.
-    pub(crate) fn out<R: Wait>(&self, rt: &R, end: End<T>) -> End<T>
+    pub(crate) fn outside<R: Wait>(&self, rt: &R, end: End<T>) -> End<T>
         requires channel { IsEndOf self.now end }
         ensures end { IsSame end result }
         ensures sent { sent_by result ≡ sent_by end }
@@ -177,7 +177,7 @@ impl<T: Drop> Channel<T> {
             at: _,
             rights,
             inside: _,
-        } = self.out(rt, other);
+        } = self.outside(rt, other);
         self.list.give_back(&mut end.chair, chair);
         end.rights = end.rights.saturating_add(rights);
     }

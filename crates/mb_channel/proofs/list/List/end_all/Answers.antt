@@ -1,5 +1,5 @@
 use Rattle.std.proofs.Common.{sym, ◌∙◌}
-use Rattle.mb_channel.proofs.Back.{closes}
+use Rattle.mb_channel.proofs.Whole.{closes}
 use Rattle.mb_channel.proofs.list.List.end_all.Goals as goal
 
 pub returns-then-ends-rights : goal.returns-then-ends-rights
