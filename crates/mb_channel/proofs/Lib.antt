@@ -3,10 +3,12 @@ mod Back
 mod Chairs
 mod Closing
 mod Counts
+mod EndLogs
 mod Ends
 mod Freed
 mod Lives
 mod Logs
+mod LogsTold
 mod Members
 mod Moves
 mod Places

@@ -182,7 +182,7 @@ module _ {T : Type 0} where
   is_there (h ∷ hs) zero lt = (h, refl)
   is_there (h ∷ hs) (suc k) lt = is_there hs k (omega arith)
 
-  each_heeds : (v : Knows T) (hs : List (Home T)) (ls : List (List T)) (w : IsWhole v hs) → HaveEnded hs ls
+  pub each_heeds : (v : Knows T) (hs : List (Home T)) (ls : List (List T)) (w : IsWhole v hs) → HaveEnded hs ls
       → (k : ℕ) → AllHeed (made_in k w.all)
   each_heeds v hs ls w ended k = go (dec_lt k (length hs))
     where

@@ -7,6 +7,10 @@ pub mod Homes
 pub mod Answers
 pub mod Lives
 pub mod LifeSamples
+pub mod Inside
+pub mod Ends
+pub mod Told
+pub mod Receives
 pub mod Rests
 pub mod Closing
 pub mod Tallies

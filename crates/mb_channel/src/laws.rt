@@ -9,6 +9,7 @@ ghost use Rattle.mb_channel.specs.Closing.{IsFinished, ListState};
 ghost use Rattle.mb_channel.specs.Homes.{AllHomes, IsShut, IsWhole, Keeps, sends, total};
 ghost use Rattle.mb_channel.specs.Lives.{HaveEnded, HaveLived, all_left, end_in};
 ghost use Rattle.mb_channel.specs.Segments.{AreLogs, EachKeeps, InTurn, KeepsEnd, TakenInTurn};
+ghost use Rattle.mb_channel.specs.Told.{AllTell};
 
 /// At each moment: if each segment keeps its own rule, and they follow each other in turn, the channel's points hold.
 pub fn moments_keep_the_theorem<T>()
@@ -37,6 +38,12 @@ pub fn lists_make_lives<T: Drop>()
     ensures life { (v : Knows T) (hs : List (Home T)) (ls : List (List T))
         → IsWhole v hs → HaveEnded hs ls
         → HaveLived (end_in v hs) (all_left ls) }
+{}
+
+/// Of a whole life: what it lists of each end is what the end's log has.
+pub fn lives_have_the_logs<T: Drop>()
+    ensures logs { (v : Knows T) (hs : List (Home T)) (ls : List (List T))
+        → IsWhole v hs → HaveEnded hs ls → AllTell v hs }
 {}
 
 /// Of each moment: where an end was told that there are so many segments, there are, and no more will come, for the list

@@ -1,22 +1,44 @@
-//! A channel for any number of senders and receivers: so far its theorem, as laws over all histories, and the list of
-//! segments on which it will stand.
+//! A channel for any number of senders and receivers, over a list of segments.
+//!
+//! - [`Channel::new`] gives a channel and its first receiver. [`Channel::sender`], [`Channel::another_sender`] and
+//!   [`Channel::another_receiver`] make further ends, which can be moved to threads.
+//! - [`Channel::send`] and [`Channel::receive`] wait, and [`Channel::receive_by`] waits until a deadline.
+//!   [`Channel::try_receive`] never waits.
+//! - [`Channel::give_sender`] and [`Channel::give_receiver`] take an end back. [`Channel::end`] ends the channel by its
+//!   last one.
+//!
+//! [`laws`] has the theorem of a channel, over all histories.
 #![tactic(auto)]
 
 mod answers;
+mod channel;
 #[cfg(test)]
 mod closing_tests;
+mod end;
+mod ending;
 mod home;
+mod inside;
 pub mod laws;
 mod list;
+mod making;
 mod parties;
 mod passes;
+mod receives;
 mod rest;
 mod rule;
 pub mod samples;
+mod sends;
+#[cfg(test)]
+mod tests;
+mod tried;
 mod view;
 mod visits;
 
 pub use answers::{Appended, Came, Retired};
+pub use channel::{Channel, Refused};
+pub use end::{Receiver, Sender};
 pub use home::{Home, Homes, Shared};
 pub use rest::{Ending, Rest};
+pub use sends::NotSent;
+pub use tried::Tried;
 pub use view::{Knows, Past, Visit};

@@ -1,0 +1,9 @@
+use Rattle.std.proofs.Common.{◌≡◌}
+use Rattle.mb_channel.specs.Ends.{view_of}
+use Rattle.mb_channel.proofs.channel.Channel.hire_sender.Given as goal
+
+abbrev pub invariant-loop : goal.invariant-loop
+invariant-loop g l =
+    (goal.iterator-loop g).can_next l.iterator' × (goal.iterator-loop g).is_finite l.iterator'
+    × (l.sender.end.chair.table_id ≡ l.initial.sender.end.chair.table_id)
+    × (view_of l.sender.end ≡ view_of l.initial.sender.end) × (l.sender.end.inside ≡ l.initial.sender.end.inside)

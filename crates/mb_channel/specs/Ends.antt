@@ -1,0 +1,46 @@
+-- What an end sent and received in all, and which channel it belongs to.
+use Rattle.std.specs.Prelude.{◌≡◌, List, [], map, true, IfSome, Some}
+use Rattle.mb_channel.specs.Types.{Knows}
+use Rattle.mb_channel.specs.declared.channel.Channel.{Channel}
+use Rattle.mb_channel.specs.declared.end.End.{End}
+use Rattle.mb_channel.specs.Inside.{Log, log_in, log_of_past}
+
+abbrev pub view_of : {T : Type 0} → End T → Knows T
+view_of e = e.chair.me.0
+
+-- all values that the end sent, and all that it received, in order
+abbrev pub sent_by : {T : Type 0} → End T → List T
+sent_by e = log_in (λ a. a.sent) (view_of e).visits e.inside
+
+abbrev pub got_by : {T : Type 0} → End T → List T
+got_by e = log_in (λ a. a.got) (view_of e).visits e.inside
+
+abbrev pub log_of : {T : Type 0} → End T → Log T
+log_of e = record { number = (view_of e).number; sent = sent_by e; got = got_by e }
+
+-- the logs of the ends that were given back to it
+abbrev pub given_to : {T : Type 0} → End T → List (Log T)
+given_to e = map log_of_past (view_of e).ended
+
+-- it did nothing, and no end was given back to it
+abbrev pub IsFresh : {T : Type 0} → End T → Type 0
+IsFresh e = (sent_by e ≡ []) × (got_by e ≡ []) × ((view_of e).ended ≡ [])
+
+abbrev pub IsEndOf : {T : Type 0} → Channel T → End T → Type 0
+IsEndOf c e = e.chair.table_id ≡ c.list.table.shared.table_id
+
+-- the same end, later: no other was given back to it meanwhile, and it counts for as many senders and receivers
+pub record IsSame {T : Type 0} (old new : End T) : Type 0 where
+  pub list : new.chair.table_id ≡ old.chair.table_id
+  pub number : (view_of new).number ≡ (view_of old).number
+  pub ended : (view_of new).ended ≡ (view_of old).ended
+  pub sends : (view_of new).sends ≡ (view_of old).sends
+  pub receives : (view_of new).receives ≡ (view_of old).receives
+
+-- it was told that no segment will ever come where it is (`closed_is_true` of src/laws.rt says what follows)
+abbrev pub WasTold : {T : Type 0} → End T → Type 0
+WasTold e = (view_of e).last ≡ Some (view_of e).at
+
+-- in the segment where the end is, no value can come any more
+abbrev pub IsOver : {T : Type 0} → End T → Type 0
+IsOver e = IfSome e.inside (λ i. i.over ≡ true)

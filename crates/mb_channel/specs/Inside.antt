@@ -1,0 +1,50 @@
+-- What an end has of the segment where it is, and what its visits and its pass there list.
+use Rattle.std.specs.Prelude.{ℕ, ◌++◌, List, [], ◌∷◌, map, Option, Some, None}
+use Rattle.mb_channel.specs.Types.{Account, Arc, Global, Pass, Past, Position, Segment, Visit}
+use Rattle.mb_channel.specs.declared.inside.Inside.{Inside}
+
+-- the pass, at work
+abbrev pub pass_in : {T : Type 0} → Inside T → Pass T
+pass_in i = record { seat = i.pass.seat }
+
+-- what it did there
+abbrev pub account_in : {T : Type 0} → Inside T → Account T
+account_in i = i.pass.seat.me.0.account
+
+-- ---- of an end that may be in a segment
+-- its share of that segment
+abbrev pub share_in : {T : Type 0} → Option (Inside T) → Option (Arc (Segment T Global) Global)
+share_in None = None
+share_in (Some i) = Some i.segment
+
+-- what its pass received there
+abbrev pub got_there : {T : Type 0} → Option (Inside T) → List (Position T)
+got_there None = []
+got_there (Some i) = (account_in i).got
+
+-- ---- logs
+abbrev pub values : {T : Type 0} → List (Position T) → List T
+values = map (λ s. s.value)
+
+-- what the accounts of these visits list, the oldest first
+abbrev pub in_visits : {T : Type 0} → (Account T → List (Position T)) → List (Visit T) → List T
+in_visits f [] = []
+in_visits f (v ∷ vs) = in_visits f vs ++ values (f v.account)
+
+-- and then the account of the pass that the end has
+abbrev pub log_in : {T : Type 0} → (Account T → List (Position T)) → List (Visit T) → Option (Inside T) → List T
+log_in f vs None = in_visits f vs
+log_in f vs (Some i) = in_visits f vs ++ values (f (account_in i))
+
+-- ---- an end that was given back
+pub record Log (T : Type 0) : Type 0 where
+  pub number : ℕ
+  pub sent : List T
+  pub got : List T
+
+abbrev pub log_of_past : {T : Type 0} → Past T → Log T
+log_of_past p = record {
+  number = p.number;
+  sent = in_visits (λ a. a.sent) p.visits;
+  got = in_visits (λ a. a.got) p.visits;
+}

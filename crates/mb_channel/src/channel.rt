@@ -1,0 +1,147 @@
+//! A channel, and how its ends come from segment to segment.
+use crate::answers::{Appended, Came};
+use crate::end::End;
+use crate::inside::Inside;
+use crate::list::List;
+use std::alloc::Global;
+
+/// Why a call could not be made. Nothing has changed.
+#[derive(Clone, Copy, PartialEq, Eq, Debug, Drop)]
+pub enum Refused {
+    /// The allocator refused the memory for the next segment.
+    NoMemory,
+    /// The channel is closed, or no sender is left.
+    Closed,
+    /// So many ends are in a segment, or there were so many segments, that they cannot be counted.
+    Crowded,
+}
+
+/// A channel without a bound, for any number of senders and receivers.
+#[derive(Drop)]
+pub struct Channel<T: Drop> {
+    pub(crate) list: List<T>,
+    pub(crate) alloc: Global,
+}
+
+/// How many positions the segment at this place has.
+fn size_at(at: usize) -> u32 {
+    if at == 0 { 64 } else { 1024 }
+}
+
+impl<T: Drop> Channel<T> {
+    ghost use Rattle.std.specs.Prelude.{◌≡◌, ◌<◌, true, false, is_some};
+    ghost use Rattle.mb_channel.specs.Ends.{IsEndOf, IsOver, IsSame, got_by, sent_by, view_of};
+
+    /// Adds a segment where the end is, if there is none yet.
+    fn append(&self, end: &mut End<T>) -> Result<(), Refused>
+        requires channel { IsEndOf self.now end.old }
+        requires sender { 0 < (view_of end.old).sends }
+        ensures end { IsSame end.old end.new }
+        ensures sent { sent_by end.new ≡ sent_by end.old }
+        ensures got { got_by end.new ≡ got_by end.old }
+        ensures takes { (view_of end.new).takes ≡ (view_of end.old).takes }
+    {
+        let at = end.at;
+        match self
+            .list
+            .append(&mut end.chair, at, self.alloc, size_at(at))
+        {
+            Ok(Appended::There) => Ok(()),
+            Ok(Appended::Locked) => Ok(()),
+            Ok(Appended::Closed) => Err(Refused::Closed),
+            Err(_) => Err(Refused::NoMemory),
+        }
+    }
+
+    /// Tries to come to the segment at the end's place. If there is none yet, a sender adds one.
+    fn come(&self, end: &mut End<T>, takes: bool) -> Result<(), Refused>
+        requires channel { IsEndOf self.now end.old }
+        requires outside { is_some end.old.inside ≡ false }
+        requires side { takes ≡ true → (view_of end.old).takes ≡ true }
+        requires sender { takes ≡ false → 0 < (view_of end.old).sends }
+        ensures end { IsSame end.old end.new }
+        ensures sent { sent_by end.new ≡ sent_by end.old }
+        ensures got { got_by end.new ≡ got_by end.old }
+        ensures takes { takes ≡ true → (view_of end.new).takes ≡ true }
+    {
+        let at = end.at;
+        if at == usize::MAX {
+            return Err(Refused::Crowded);
+        }
+        match self.list.come(&mut end.chair, at, takes) {
+            Came::Here(segment, pass) => {
+                let pass = pass.rest();
+                end.inside = Some(Inside {
+                    segment,
+                    pass,
+                    over: false,
+                });
+                Ok(())
+            }
+            Came::Gone(first) => {
+                end.at = first;
+                Ok(())
+            }
+            Came::NotYet => { if takes { Ok(()) } else { self.append(end) } }
+            Came::Closed => Err(Refused::Closed),
+            Came::Crowded => Err(Refused::Crowded),
+            Came::Locked => Ok(()),
+        }
+    }
+
+    /// Tries to leave the segment where the end is. An end that is in none has left.
+    pub(crate) fn leave(&self, end: &mut End<T>) -> bool
+        requires channel { IsEndOf self.now end.old }
+        ensures end { IsSame end.old end.new }
+        ensures sent { sent_by end.new ≡ sent_by end.old }
+        ensures got { got_by end.new ≡ got_by end.old }
+        ensures takes { (view_of end.old).takes ≡ true → IsOver end.old
+            → (view_of end.new).takes ≡ true }
+        ensures left { result ≡ true → is_some end.new.inside ≡ false }
+    {
+        let at = end.at;
+        let Some(inside) = end.inside.take() else {
+            return true;
+        };
+        let Inside {
+            segment,
+            pass,
+            over,
+        } = inside;
+        match self.list.leave(&mut end.chair, at, pass.pass(), over) {
+            Ok(_) => {
+                end.at = at + 1;
+                true
+            }
+            Err(pass) => {
+                let pass = pass.rest();
+                end.inside = Some(Inside {
+                    segment,
+                    pass,
+                    over,
+                });
+                false
+            }
+        }
+    }
+
+    /// Goes on: leaves the segment where the end is, or comes to the next one. It is a try, which may change nothing if
+    /// the lock is taken.
+    pub(crate) fn go_on(&self, end: &mut End<T>, takes: bool) -> Result<(), Refused>
+        requires channel { IsEndOf self.now end.old }
+        requires side { takes ≡ true → (view_of end.old).takes ≡ true }
+        requires sender { takes ≡ false → 0 < (view_of end.old).sends }
+        requires over { takes ≡ true → IsOver end.old }
+        ensures end { IsSame end.old end.new }
+        ensures sent { sent_by end.new ≡ sent_by end.old }
+        ensures got { got_by end.new ≡ got_by end.old }
+        ensures takes { takes ≡ true → (view_of end.new).takes ≡ true }
+    {
+        if end.inside.is_some() {
+            self.leave(end);
+            Ok(())
+        } else {
+            self.come(end, takes)
+        }
+    }
+}

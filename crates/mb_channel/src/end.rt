@@ -1,0 +1,125 @@
+//! Senders and receivers.
+ghost use Rattle.std.specs.Prelude.{◌≡◌, ◌<◌, [], true, false, is_some};
+ghost use Rattle.mb_channel.specs.Homes.{IsReady, view_in};
+ghost use Rattle.mb_channel.specs.Inside.{got_there, share_in};
+
+use crate::inside::Inside;
+use crate::list::Chair;
+use crate::tried::Tried;
+use mb_segment::Received;
+use std::sync::Wait;
+use std::time::{Clock, Instant};
+
+/// An end of a channel: where it is, and what it has there. If it is dropped, it never comes back: the channel cannot be
+/// ended then, and the segment where it is and those behind stay.
+#[derive(Drop)]
+pub struct End<T: Drop> {
+    pub(crate) chair: Chair<T>,
+    pub(crate) at: usize,
+    /// For how many ends it counts, if that is below 2^64 - 1.
+    pub(crate) rights: u64,
+    pub(crate) inside: Option<Inside<T>>,
+    ghost ready: { IsReady chair.me },
+    ghost here: { (view_in chair).at ≡ at },
+    ghost counts: { 0 < (view_in chair).rights },
+    ghost counted: { rights < 18446744073709551615 → (view_in chair).rights ≡ rights },
+    ghost inside_: { (view_in chair).inside ≡ is_some inside },
+    ghost place: { is_some inside ≡ true → (view_in chair).place ≡ share_in inside },
+    ghost poor: { (view_in chair).takes ≡ false → got_there inside ≡ [] },
+    ghost room: { is_some inside ≡ true → at < 18446744073709551615 },
+}
+
+/// An end that sends.
+#[derive(Drop)]
+pub struct Sender<T: Drop> {
+    pub(crate) end: End<T>,
+    ghost sends: { 0 < (view_in end.chair).sends },
+}
+
+/// An end that receives.
+#[derive(Drop)]
+pub struct Receiver<T: Drop> {
+    pub(crate) end: End<T>,
+    ghost takes: { (view_in end.chair).takes ≡ true },
+    ghost receives: { 0 < (view_in end.chair).receives },
+}
+
+impl<T: Drop> End<T> {
+    ghost use Rattle.std.specs.Prelude.{◌++◌, ◌∷◌, IfErr, IfNone, IfSome, OnOk};
+    ghost use Rattle.mb_channel.specs.Ends.{IsOver, got_by, sent_by, view_of};
+
+    /// Sends a value in the segment where the end is. It comes back if the end is in none, or if no more can be sent
+    /// there.
+    pub(crate) fn send<R: Wait>(&mut self, rt: &R, value: T) -> Result<(), T>
+        ensures chair { self.new.chair ≡ self.old.chair }
+        ensures sent { OnOk result (sent_by self.new ≡ sent_by self.old ++ value ∷ []) }
+        ensures back { IfErr result (λ x. (x ≡ value) × (sent_by self.new ≡ sent_by self.old)) }
+        ensures got { got_by self.new ≡ got_by self.old }
+    {
+        let Some(inside) = self.inside.take() else {
+            return Err(value);
+        };
+        let (inside, sent) = inside.send(rt, value);
+        self.inside = Some(inside);
+        sent
+    }
+
+    /// Receives a value in the segment where the end is. `None` if the end is in none, or if none can come there any
+    /// more.
+    pub(crate) fn receive<R: Wait>(&mut self, rt: &R) -> Option<T>
+        requires takes { (view_of self.old).takes ≡ true }
+        ensures chair { self.new.chair ≡ self.old.chair }
+        ensures got { IfSome result (λ x. got_by self.new ≡ got_by self.old ++ x ∷ []) }
+        ensures none { IfNone result (IsOver self.new × (got_by self.new ≡ got_by self.old)) }
+        ensures sent { sent_by self.new ≡ sent_by self.old }
+    {
+        let inside = self.inside.take()?;
+        let (inside, got) = inside.receive(rt);
+        self.inside = Some(inside);
+        got
+    }
+}
+
+impl<T: Drop> End<T> {
+    ghost use Rattle.std.specs.Prelude.{◌++◌, ◌∷◌, IfNone, IfSome};
+    ghost use Rattle.mb_segment.specs.Waiting.{OfReceived};
+    ghost use Rattle.mb_channel.specs.Ends.{IsOver, got_by, sent_by, view_of};
+    ghost use Rattle.mb_channel.specs.Receives.{OfTried, SawEmpty};
+
+    /// Receives a value in the segment where the end is, until a deadline. An end that is in none is told that none can
+    /// come there.
+    pub(crate) fn receive_by<R: Wait + Clock>(&mut self, rt: &R, deadline: Instant) -> Received<T>
+        requires takes { (view_of self.old).takes ≡ true }
+        ensures chair { self.new.chair ≡ self.old.chair }
+        ensures answer { OfReceived result
+            (λ x. got_by self.new ≡ got_by self.old ++ x ∷ [])
+            (IsOver self.new × (got_by self.new ≡ got_by self.old))
+            (SawEmpty self.new × (got_by self.new ≡ got_by self.old)) }
+        ensures sent { sent_by self.new ≡ sent_by self.old }
+    {
+        let Some(inside) = self.inside.take() else {
+            return Received::Over;
+        };
+        let (inside, got) = inside.receive_by(rt, deadline);
+        self.inside = Some(inside);
+        got
+    }
+
+    /// Tries to receive a value in the segment where the end is. `None` if the end is in none, or if none can come there
+    /// any more.
+    pub(crate) fn try_receive(&mut self) -> Option<Tried<T>>
+        requires takes { (view_of self.old).takes ≡ true }
+        ensures chair { self.new.chair ≡ self.old.chair }
+        ensures answer { IfSome result (λ t. OfTried t
+            (λ x. got_by self.new ≡ got_by self.old ++ x ∷ [])
+            (SawEmpty self.new × (got_by self.new ≡ got_by self.old))
+            (got_by self.new ≡ got_by self.old)) }
+        ensures none { IfNone result (IsOver self.new × (got_by self.new ≡ got_by self.old)) }
+        ensures sent { sent_by self.new ≡ sent_by self.old }
+    {
+        let inside = self.inside.take()?;
+        let (inside, tried) = inside.try_receive();
+        self.inside = Some(inside);
+        tried
+    }
+}

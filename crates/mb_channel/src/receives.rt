@@ -1,0 +1,88 @@
+//! The calls that receive.
+ghost use Rattle.std.specs.Prelude.{◌≡◌, ◌++◌, ◌∷◌, [], IfNone, IfOk, IfSome, OnErr};
+ghost use Rattle.mb_channel.specs.Ends.{IsEndOf, IsSame, got_by, sent_by};
+ghost use Rattle.mb_channel.specs.Receives.{OfTried, SawEmpty};
+
+use crate::channel::{Channel, Refused};
+use crate::end::Receiver;
+use crate::tried::Tried;
+use mb_segment::Received;
+use std::sync::Wait;
+use std::thread::yield_now;
+use std::time::{Clock, Instant};
+
+/// How often a call that never waits leaves a segment or comes to one, at most: it leaves one, adds the next, and comes to
+/// it.
+const TRIES: u32 = 4;
+
+impl<T: Drop> Channel<T> {
+    /// Receives the next value, and sleeps until there is one.
+    pub fn receive<R: Wait>(&self, rt: &R, receiver: &mut Receiver<T>) -> Result<T, Refused>
+        requires channel { IsEndOf self.now receiver.old.end }
+        ensures end { IsSame receiver.old.end receiver.new.end }
+        ensures got { IfOk result (λ x. got_by receiver.new.end
+            ≡ got_by receiver.old.end ++ x ∷ []) }
+        ensures none { OnErr result (got_by receiver.new.end ≡ got_by receiver.old.end) }
+        ensures sent { sent_by receiver.new.end ≡ sent_by receiver.old.end }
+    {
+        for _ in rt.forever() {
+            if let Some(value) = receiver.end.receive(rt) {
+                return Ok(value);
+            }
+            self.go_on(&mut receiver.end, true)?;
+            yield_now();
+        }
+        unreachable!()
+    }
+
+    /// The same until a deadline: `None` if that came first. At a moment of this call all was received that this end had
+    /// sent in its segment, or had seen there. It goes on past the deadline while a value is being sent, and while another
+    /// end has the lock.
+    pub fn receive_by<R: Wait + Clock>(
+        &self,
+        rt: &R,
+        receiver: &mut Receiver<T>,
+        deadline: Instant,
+    ) -> Result<Option<T>, Refused>
+        requires channel { IsEndOf self.now receiver.old.end }
+        ensures end { IsSame receiver.old.end receiver.new.end }
+        ensures got { IfOk result (λ o. IfSome o (λ x. got_by receiver.new.end
+            ≡ got_by receiver.old.end ++ x ∷ [])) }
+        ensures late { IfOk result (λ o. IfNone o (SawEmpty receiver.new.end
+            × (got_by receiver.new.end ≡ got_by receiver.old.end))) }
+        ensures none { OnErr result (got_by receiver.new.end ≡ got_by receiver.old.end) }
+        ensures sent { sent_by receiver.new.end ≡ sent_by receiver.old.end }
+    {
+        for _ in rt.forever() {
+            match receiver.end.receive_by(rt, deadline) {
+                Received::Value(value) => return Ok(Some(value)),
+                Received::TimedOut => return Ok(None),
+                Received::Over => {}
+            }
+            self.go_on(&mut receiver.end, true)?;
+            yield_now();
+        }
+        unreachable!()
+    }
+
+    /// The same without waiting: a few tries.
+    pub fn try_receive(&self, receiver: &mut Receiver<T>) -> Result<Tried<T>, Refused>
+        requires channel { IsEndOf self.now receiver.old.end }
+        ensures end { IsSame receiver.old.end receiver.new.end }
+        ensures answer { IfOk result (λ t. OfTried t
+            (λ x. got_by receiver.new.end ≡ got_by receiver.old.end ++ x ∷ [])
+            (SawEmpty receiver.new.end
+            × (got_by receiver.new.end ≡ got_by receiver.old.end))
+            (got_by receiver.new.end ≡ got_by receiver.old.end)) }
+        ensures none { OnErr result (got_by receiver.new.end ≡ got_by receiver.old.end) }
+        ensures sent { sent_by receiver.new.end ≡ sent_by receiver.old.end }
+    {
+        for _ in 0..TRIES {
+            if let Some(tried) = receiver.end.try_receive() {
+                return Ok(tried);
+            }
+            self.go_on(&mut receiver.end, true)?;
+        }
+        Ok(Tried::Again)
+    }
+}

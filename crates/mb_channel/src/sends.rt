@@ -1,0 +1,41 @@
+//! The calls that send.
+ghost use Rattle.std.specs.Prelude.{◌≡◌, ◌++◌, ◌∷◌, [], IfErr, OnOk};
+ghost use Rattle.mb_channel.specs.Ends.{IsEndOf, IsSame, got_by, sent_by};
+
+use crate::channel::{Channel, Refused};
+use crate::end::Sender;
+use std::sync::Wait;
+use std::thread::yield_now;
+
+/// A value that was not sent, and why.
+#[derive(Debug, Drop)]
+pub struct NotSent<T> {
+    pub value: T,
+    pub why: Refused,
+}
+
+impl<T: Drop> Channel<T> {
+    /// Sends a value, behind all that the sender sent before, and wakes a receiver for it. The error gives it back.
+    pub fn send<R: Wait>(&self, rt: &R, sender: &mut Sender<T>, value: T) -> Result<(), NotSent<T>>
+        requires channel { IsEndOf self.now sender.old.end }
+        ensures end { IsSame sender.old.end sender.new.end }
+        ensures sent { OnOk result (sent_by sender.new.end
+            ≡ sent_by sender.old.end ++ value ∷ []) }
+        ensures back { IfErr result (λ e. (e.value ≡ value)
+            × (sent_by sender.new.end ≡ sent_by sender.old.end)) }
+        ensures got { got_by sender.new.end ≡ got_by sender.old.end }
+    {
+        let mut value = value;
+        for _ in rt.forever() {
+            match sender.end.send(rt, value) {
+                Ok(()) => return Ok(()),
+                Err(back) => value = back,
+            }
+            if let Err(why) = self.go_on(&mut sender.end, false) {
+                return Err(NotSent { value, why });
+            }
+            yield_now();
+        }
+        unreachable!()
+    }
+}
