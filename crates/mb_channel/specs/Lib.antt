@@ -7,3 +7,4 @@ pub mod Homes
 pub mod Answers
 pub mod Lives
 pub mod LifeSamples
+pub mod HomeSamples

@@ -4,6 +4,7 @@
 
 mod answers;
 mod home;
+pub mod home_samples;
 pub mod laws;
 mod list;
 mod passes;
