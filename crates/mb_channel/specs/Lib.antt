@@ -14,3 +14,4 @@ pub mod Receives
 pub mod Rests
 pub mod Closing
 pub mod Tallies
+pub mod HomeSamples

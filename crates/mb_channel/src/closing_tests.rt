@@ -40,7 +40,7 @@ fn run<R: Wait>(rt: &R, alloc: Global) -> Result<Option<(Retired, [Option<u64>; 
         Came::Gone(_) | Came::NotYet | Came::Crowded | Came::Locked => return Ok(None),
     }
     let retired = list.retire_sender(&mut chair, 1);
-    let Some(homes) = list.end(chair) else {
+    let Some(homes) = list.end(chair, 1) else {
         return Ok(None);
     };
     let Ok(mut rest) = Ending::new(homes, alloc).finish() else {

@@ -14,29 +14,6 @@ use crate::list::{Chair, List};
 use crate::rest::Ending;
 use std::sync::Wait;
 
-impl<T: Drop> List<T> {
-    /// As [`List::end`], for a chair that counts for so many ends.
-    fn end_all(self, chair: Chair<T>, rights: u64) -> Option<Homes<T>>
-        requires list { chair.table_id ≡ self.table.shared.table_id }
-        requires ready { IsReady chair.me }
-        requires counts { rights < 18446744073709551615 → (view_in chair).rights ≡ rights }
-        ensures whole { IfSome result (λ l. (hs : Seq (Home T)) × Stands hs l
-            × IsWhole (view_in chair) hs) }
-    {
-        let List { table } = self;
-        let mut closed = table.close_with(chair);
-        let lock = closed.word(0);
-        let ends = closed.word(1);
-        let homes = closed.take(0);
-        closed.free();
-        if rights < u64::MAX && lock == 0 && ends == rights {
-            Some(homes)
-        } else {
-            None
-        }
-    }
-}
-
 impl<T: Drop> Channel<T> {
     /// Ends the channel by its last end, to which all others were given back. It is `None` if an end was not given back.
     /// `Ending::finish` then gives out what is left: with what the ends did, that is one channel's life.
@@ -55,7 +32,7 @@ impl<T: Drop> Channel<T> {
             inside: _,
         } = self.outside(rt, end);
         let Channel { list, alloc } = self;
-        let homes = list.end_all(chair, rights)?;
+        let homes = list.end(chair, rights)?;
         Some(Ending::new(homes, alloc))
     }
 }

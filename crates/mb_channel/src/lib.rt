@@ -17,6 +17,7 @@ mod closing_tests;
 mod end;
 mod ending;
 mod home;
+pub mod home_samples;
 mod inside;
 pub mod laws;
 mod list;

@@ -200,12 +200,13 @@ impl<T: Drop> List<T> {
         self.table.shared.join_seat::<Ends>(chair, other);
     }
 
-    /// Ends the list. The segments that are not freed come back, with what each end did in which. It is `None` if an end
-    /// was not given back or stopped while it had the lock.
-    pub fn end(self, chair: Chair<T>) -> Option<Homes<T>>
+    /// Ends the list, by an end that counts for so many ends, if these are below 2^64 - 1. The segments that are not freed
+    /// come back, with what each end did in which. It is `None` if there are more ends, if one stopped while it had the
+    /// lock, or if the ends cannot be counted.
+    pub fn end(self, chair: Chair<T>, rights: u64) -> Option<Homes<T>>
         requires list { chair.table_id ≡ self.table.shared.table_id }
         requires ready { IsReady chair.me }
-        requires last { (view_in chair).rights ≡ 1 }
+        requires counts { rights < 18446744073709551615 → (view_in chair).rights ≡ rights }
         ensures whole { IfSome result (λ l. (hs : Seq (Home T)) × Stands hs l
             × IsWhole (view_in chair) hs) }
     {
@@ -215,7 +216,7 @@ impl<T: Drop> List<T> {
         let ends = closed.word(1);
         let homes = closed.take(0);
         closed.free();
-        if lock == 0 && ends == 1 {
+        if rights < u64::MAX && lock == 0 && ends == rights {
             Some(homes)
         } else {
             None

@@ -1,0 +1,23 @@
+-- Samples of the list of segments. End 0 sent 10 and 11 in segment 0, and 12 in segment 1. End 1 took 10.
+use Rattle.std.specs.Prelude.{ℕ, List, [], ◌∷◌}
+use Rattle.mb_channel.specs.Types.{Knows, Visit}
+use Rattle.mb_channel.specs.Homes.{Made}
+use Rattle.mb_channel.specs.LifeSamples.{last_end, one_got, one_sent, two_sent, visit}
+
+-- this visit of end n
+abbrev pub made : ℕ → Visit ℕ → Made ℕ
+made n v = record { by = n; visit = v }
+
+abbrev pub one_visit : List (Made ℕ)
+one_visit = made 0 (visit 0 two_sent) ∷ []
+
+-- a value was received in segment 1
+abbrev pub one_take : List (Made ℕ)
+one_take = made 0 (visit 1 one_got) ∷ []
+
+abbrev pub all_visits : List (Made ℕ)
+all_visits = made 0 (visit 1 one_sent) ∷ made 1 (visit 0 one_got) ∷ one_visit
+
+-- the last end has left segment 1
+abbrev pub last_of_two : Knows ℕ
+last_of_two = record last_end { at = 2 }

@@ -1,0 +1,45 @@
+//! Samples of the list's definitions: what they admit, and what only looks right. The functions compute nothing: their
+//! contracts are the samples.
+ghost use Rattle.std.specs.Prelude.{List, ℕ, [], ◌∷◌, ◌≡◌};
+ghost use Rattle.mb_channel.specs.HomeSamples.{last_of_two, one_take, one_visit};
+ghost use Rattle.mb_channel.specs.Homes.{Agrees, IsDone, IsFreed, IsNext, IsWhole, Stands, came_back, first_view, out_of};
+ghost use Rattle.mb_channel.specs.LifeSamples.{one_got, one_sent, two_sent};
+ghost use Rattle.mb_channel.specs.Types.{Home, Homes};
+
+/// All segments that there ever were. Admitted: one that was freed, before those in the list. Refused: one that was
+/// freed before it was done, and one that is neither freed nor in the list.
+pub fn sample_standing()
+    ensures freed { (h : Home ℕ) (l : Homes ℕ) → IsFreed h → l.first ≡ 1
+        → Stands (h ∷ l.list.items) l }
+    ensures undone { (h : Home ℕ) (l : Homes ℕ) → (IsDone h → ⊥) → l.first ≡ 1
+        → Stands (h ∷ l.list.items) l → ⊥ }
+    ensures lost { (h : Home ℕ) (l : Homes ℕ) → l.first ≡ 0
+        → Stands (h ∷ l.list.items) l → ⊥ }
+{}
+
+/// Where a receiver may go on. Admitted: past a segment that is done. Refused: past one that is not, and past one that
+/// is not there.
+pub fn sample_next()
+    ensures done { (h g : Home ℕ) → IsDone h → IsNext (h ∷ g ∷ []) 1 }
+    ensures undone { (h g : Home ℕ) → (IsDone h → ⊥) → IsNext (h ∷ g ∷ []) 1 → ⊥ }
+    ensures absent { (h : Home ℕ) → IsDone h → IsNext (h ∷ []) 2 → ⊥ }
+{}
+
+/// What hubs and visits say. Admitted: one visit, of which the hub knows. Refused: a visit of which the hub knows
+/// nothing, and a value received behind a segment that is not done.
+pub fn sample_agreement()
+    ensures known { (h : Home ℕ) → came_back h ≡ two_sent ∷ [] → Agrees (h ∷ []) one_visit }
+    ensures unknown { (h : Home ℕ) → came_back h ≡ [] → Agrees (h ∷ []) one_visit → ⊥ }
+    ensures early { (h g : Home ℕ) → (IsDone h → ⊥) → Agrees (h ∷ g ∷ []) one_take → ⊥ }
+{}
+
+/// The end. Two ends in two segments are admitted. Refused: a pass that is out once the last end has left, and an
+/// account in a hub that no end's visits have.
+pub fn sample_whole()
+    ensures two { (h g : Home ℕ) → came_back h ≡ one_got ∷ two_sent ∷ []
+        → came_back g ≡ one_sent ∷ [] → out_of h ≡ 0 → out_of g ≡ 0
+        → IsWhole last_of_two (h ∷ g ∷ []) }
+    ensures out { (h g : Home ℕ) → out_of h ≡ 1 → IsWhole last_of_two (h ∷ g ∷ []) → ⊥ }
+    ensures stranger { (h : Home ℕ) → came_back h ≡ two_sent ∷ []
+        → IsWhole first_view (h ∷ []) → ⊥ }
+{}
