@@ -1,6 +1,6 @@
 //! A channel for any number of senders and receivers, over a list of segments.
 //!
-//! - [`Channel::new`] gives a channel and its first receiver. [`Channel::sender`], [`Channel::another_sender`] and
+//! - [`Channel::new`] gives a channel, a sender and a receiver. [`Channel::another_sender`] and
 //!   [`Channel::another_receiver`] make further ends, which can be moved to threads.
 //! - [`Channel::send`] and [`Channel::receive`] wait, and [`Channel::receive_by`] waits until a deadline.
 //!   [`Channel::try_receive`] never waits.
