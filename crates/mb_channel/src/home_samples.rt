@@ -2,7 +2,7 @@
 //! contracts are the samples.
 ghost use Rattle.std.specs.Prelude.{List, ℕ, [], ◌∷◌, ◌≡◌};
 ghost use Rattle.mb_channel.specs.HomeSamples.{last_of_two, one_take, one_visit};
-ghost use Rattle.mb_channel.specs.Homes.{Agrees, IsDone, IsFreed, IsNext, IsWhole, Stands, came_back, first_view, out_of};
+ghost use Rattle.mb_channel.specs.Homes.{Agrees, IsDone, IsFreed, IsWhole, Stands, came_back, first_view, out_of};
 ghost use Rattle.mb_channel.specs.LifeSamples.{one_got, one_sent, two_sent};
 ghost use Rattle.mb_channel.specs.Types.{Home, Homes};
 
@@ -15,14 +15,6 @@ pub fn sample_standing()
         → Stands (h ∷ l.list.items) l → ⊥ }
     ensures lost { (h : Home ℕ) (l : Homes ℕ) → l.first ≡ 0
         → Stands (h ∷ l.list.items) l → ⊥ }
-{}
-
-/// Where a receiver may go on. Admitted: past a segment that is done. Refused: past one that is not, and past one that
-/// is not there.
-pub fn sample_next()
-    ensures done { (h g : Home ℕ) → IsDone h → IsNext (h ∷ g ∷ []) 1 }
-    ensures undone { (h g : Home ℕ) → (IsDone h → ⊥) → IsNext (h ∷ g ∷ []) 1 → ⊥ }
-    ensures absent { (h : Home ℕ) → IsDone h → IsNext (h ∷ []) 2 → ⊥ }
 {}
 
 /// What hubs and visits say. Admitted: one visit, of which the hub knows. Refused: a visit of which the hub knows

@@ -16,9 +16,8 @@ hub_knows h e (suc k) x at = absurd (some-ne-none x (sym at))
 none_behind : (k : ℕ) → 1 ≤ k → made_in k one_visit ≡ []
 none_behind k le = ap (λ (b : Bool). if b then two_sent ∷ [] else []) (ne_eqb 0 k (λ q. omega (arith, le, q)))
 
-before_one : (h g : Home ℕ) (j : ℕ) → suc j ≡ 1 → At (h ∷ g ∷ []) j IsDone → IsDone h
-before_one h g zero e at = subst (λ x. IsDone x) (sym (some-injective h at.0 at.1)) at.2
-before_one h g (suc j) e at = absurd (omega (arith, e))
+first_done : (h g : Home ℕ) → At (h ∷ g ∷ []) 0 IsDone → IsDone h
+first_done h g at = subst (λ x. IsDone x) (sym (some-injective h at.0 at.1)) at.2
 
 pub returns-clause-known : goal.returns-clause-known
 returns-clause-known c h e = record { here = hub_knows h e; none_behind = none_behind; turn = (inl refl, tt) }
@@ -28,4 +27,4 @@ returns-clause-unknown c h e a = let n = ap length (sym e ∙ a.here 0 h refl) i
 
 pub returns-clause-early : goal.returns-clause-early
 returns-clause-early c h g no_ a = ⊎_elim (λ e. let n = ap length e in absurd (omega (arith, n)))
-    (λ next. ⊎_elim (λ e. absurd (omega (arith, e))) (λ d. no_ (before_one h g d.0 d.1 d.2)) next) a.turn.0
+    (λ next. no_ (first_done h g (next 0 (omega arith)))) a.turn.0

@@ -38,7 +38,7 @@ returns-clause-two c h g a b out_h out_g = record {
   agrees = record {
     here = hubs_know h g a b;
     none_behind = none_behind;
-    turn = (inl refl, (inr (inl refl), (inl refl, tt)));
+    turn = (inl refl, (inr (λ j lt. absurd (omega (arith, lt))), (inl refl, tt)));
   };
   own = (refl, (omega arith, (omega arith, tt)));
   others = ((refl, (1, (omega arith, tt))), tt);
