@@ -1,5 +1,5 @@
 //! The calls that receive.
-ghost use Rattle.std.specs.Prelude.{◌≡◌, ◌++◌, ◌∷◌, [], IfNone, IfOk, IfSome, OnErr};
+ghost use Rattle.std.specs.Prelude.{◌≡◌, ◌⊎◌, ◌++◌, ◌∷◌, [], false, is_some, IfNone, IfOk, IfSome, OnErr};
 ghost use Rattle.mb_channel.specs.Ends.{IsEndOf, IsSame, got_by, sent_by};
 ghost use Rattle.mb_channel.specs.Receives.{OfTried, SawEmpty};
 
@@ -36,8 +36,8 @@ impl<T: Drop> Channel<T> {
     }
 
     /// The same until a deadline: `None` if that came first. At a moment of this call all was received that this end had
-    /// sent in its segment, or had seen there. It goes on past the deadline while a value is being sent, and while another
-    /// end has the lock.
+    /// sent in its segment, or had seen there, or it is in no segment: the next one is not there yet, or the lock was taken.
+    /// It goes on past the deadline while a value is being sent.
     pub fn receive_by<R: Wait + Clock>(
         &self,
         rt: &R,
@@ -48,7 +48,8 @@ impl<T: Drop> Channel<T> {
         ensures end { IsSame receiver.old.end receiver.new.end }
         ensures got { IfOk result (λ o. IfSome o (λ x. got_by receiver.new.end
             ≡ got_by receiver.old.end ++ x ∷ [])) }
-        ensures late { IfOk result (λ o. IfNone o (SawEmpty receiver.new.end
+        ensures late { IfOk result (λ o. IfNone o
+            ((SawEmpty receiver.new.end ⊎ (is_some receiver.new.end.inside ≡ false))
             × (got_by receiver.new.end ≡ got_by receiver.old.end))) }
         ensures none { OnErr result (got_by receiver.new.end ≡ got_by receiver.old.end) }
         ensures sent { sent_by receiver.new.end ≡ sent_by receiver.old.end }
@@ -59,7 +60,14 @@ impl<T: Drop> Channel<T> {
                 Received::TimedOut => return Ok(None),
                 Received::Over => {}
             }
+            let was_inside = receiver.end.inside.is_some();
             self.go_on(&mut receiver.end, true)?;
+            if receiver.end.inside.is_some() {
+                continue;
+            }
+            if !was_inside && is_past(rt, deadline) {
+                return Ok(None);
+            }
             yield_now();
         }
         unreachable!()
@@ -84,5 +92,13 @@ impl<T: Drop> Channel<T> {
             self.go_on(&mut receiver.end, true)?;
         }
         Ok(Tried::Again)
+    }
+}
+
+/// Whether the deadline has come. Without a clock it has.
+fn is_past<R: Clock>(rt: &R, deadline: Instant) -> bool {
+    match Instant::now(rt) {
+        Ok(now) => deadline.saturating_duration_since(now).is_zero(),
+        Err(_) => true,
     }
 }

@@ -7,6 +7,6 @@ pub enum Tried<T> {
     /// No value is there. At a moment of this call all was received that this end had sent in its segment, or had seen
     /// there.
     Empty,
-    /// A value is being sent, or another end was first, or the lock is taken. Yield, and try again.
+    /// A value is being sent, another end was first, the lock is taken, or no segment is there yet. Yield, and try again.
     Again,
 }
