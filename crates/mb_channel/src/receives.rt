@@ -36,7 +36,7 @@ impl<T: Drop> Channel<T> {
     }
 
     /// The same until a deadline: `None` if that came first. Then at a moment of this call all was received that this end
-    /// had sent in its segment, or had seen there. Or the end is in no segment, since the next one is not there yet, or the
+    /// had sent in its segment, or had seen there. Or the end is in no segment: the next one is not there yet, or the
     /// lock was taken. It goes on past the deadline while a value is being sent.
     pub fn receive_by<R: Wait + Clock>(
         &self,
