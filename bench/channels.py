@@ -54,7 +54,7 @@ def ratios(took, what, sent, base="crossbeam"):
 def front(took):
     """The rows of the README."""
     bytes_row = ["bytes for each `u64` that waits", *map(kept, CHANNELS)]
-    named = {"u64": "time, `u64`", "box": "time, a box each"}
+    named = {"u64": "time, `u64`", "box": "time, each value a `Box`"}
     rows = [[named[sent], *(ratios(took, it, sent) for it in CHANNELS)] for sent in SENT]
     return measuring.table(["", *CHANNELS.values()], [bytes_row, *rows])
 
