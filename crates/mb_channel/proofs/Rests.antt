@@ -82,12 +82,14 @@ module _ {T : Type 0} where
   -- ---- all have ended
   pub all_ended : (v : Knows T) (hs : List (Home T)) (e : Ending T) (r : Rest T) → IsEnding hs e → e.list.items ≡ []
       → r.lefts.items ≡ e.lefts.items → IsWhole v hs → RestOfLife v hs r
-  all_ended v hs e r is list lefts w = (
-    all_left is.ls,
-    subst (λ xs. AreLeft xs (all_left is.ls)) (sym lefts) is.back,
-    have_lived v hs is.ls w (subst (λ x. HaveEnded x is.ls)
-        (sym (is.all ∙ ap (λ y. is.ended ++ y) list ∙ append-nil is.ended)) is.whole),
-  )
+  all_ended v hs e r is list lefts w =
+      let whole = subst (λ x. HaveEnded x is.ls)
+      (sym (is.all ∙ ap (λ y. is.ended ++ y) list ∙ append-nil is.ended)) is.whole in (
+        is.ls,
+        whole,
+        subst (λ xs. AreLeft xs (all_left is.ls)) (sym lefts) is.back,
+        have_lived v hs is.ls w whole,
+      )
 
   -- ---- the next value
   head_is : (x y : T) (xs ys : List T) → x ∷ xs ≡ y ∷ ys → x ≡ y

@@ -1,5 +1,5 @@
 -- What an end sent and received in all, and which channel it belongs to.
-use Rattle.std.specs.Prelude.{◌≡◌, List, [], map, true, IfSome, Some}
+use Rattle.std.specs.Prelude.{◌≡◌, List, [], map, true, IfSome}
 use Rattle.mb_channel.specs.Types.{Knows}
 use Rattle.mb_channel.specs.declared.channel.Channel.{Channel}
 use Rattle.mb_channel.specs.declared.end.End.{End}
@@ -36,10 +36,6 @@ pub record IsSame {T : Type 0} (old new : End T) : Type 0 where
   pub ended : (view_of new).ended ≡ (view_of old).ended
   pub sends : (view_of new).sends ≡ (view_of old).sends
   pub receives : (view_of new).receives ≡ (view_of old).receives
-
--- it was told that no segment will ever come where it is (`closed_is_true` of src/laws.rt says what follows)
-abbrev pub WasTold : {T : Type 0} → End T → Type 0
-WasTold e = (view_of e).last ≡ Some (view_of e).at
 
 -- in the segment where the end is, no value can come any more
 abbrev pub IsOver : {T : Type 0} → End T → Type 0

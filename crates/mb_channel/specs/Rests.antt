@@ -20,6 +20,8 @@ pub record IsEnding {T : Type 0} (hs : List (Home T)) (e : Ending T) : Type 0 wh
 abbrev pub HasRest : {T : Type 0} → Rest T → List T → Type 0
 HasRest r back = AreLeft r.lefts.items back
 
--- what is given back and what the ends did are of one life
+-- all segments have ended, and had these values left. What is given back is those values, and with what the ends did it is
+-- one life
 abbrev pub RestOfLife : {T : Type 0} → Knows T → List (Home T) → Rest T → Type 0
-RestOfLife {T} v hs r = (back : List T) × HasRest r back × HaveLived (end_in v hs) back
+RestOfLife {T} v hs r = (ls : List (List T)) × HaveEnded hs ls × HasRest r (all_left ls)
+    × HaveLived (end_in v hs) (all_left ls)

@@ -11,8 +11,7 @@ use std::sync::Wait;
 use std::thread::yield_now;
 use std::time::{Clock, Instant};
 
-/// How often a call that never waits leaves a segment or comes to one, at most: it leaves one, adds the next, and comes to
-/// it.
+/// How often a call that never waits leaves a segment or comes to one, at most.
 const TRIES: u32 = 4;
 
 impl<T: Drop> Channel<T> {
