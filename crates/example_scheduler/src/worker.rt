@@ -18,7 +18,7 @@ pub const CHAIN: u64 = 8;
 const PATIENCE: u64 = 500;
 
 /// What a worker is sent.
-#[derive(Clone, Copy, Debug)]
+#[derive(Clone, Copy)]
 pub enum Task {
     /// The job with this number.
     Run(u64),
@@ -120,7 +120,8 @@ impl Worker {
                 Ok(Some(Task::Run(job))) => self.run(rt, channel, board, options, job)?,
                 Ok(Some(Task::Stop)) => break,
                 Ok(None) => {}
-                Err(_) => bail!("no place"),
+                // The channel is never closed, and few ends are in a segment.
+                Err(_) => bail!("the channel refused a receiver"),
             }
         }
         Ok(())
