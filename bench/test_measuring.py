@@ -1,7 +1,5 @@
 """Tests of what the scripts of bench/ make of figures that programs print."""
-import os
 import pathlib
-import subprocess
 import sys
 import unittest
 from unittest import mock
@@ -12,7 +10,6 @@ import by_cells
 import channels
 import large
 import measuring
-import rounds
 
 ANNOTATED = """
 13,554,432 (71.34%)  ???:hz_poll [/tmp/by_cells]
@@ -55,12 +52,6 @@ class Figures(unittest.TestCase):
     def test_a_large_run_that_fails(self):
         with mock.patch.object(large, "PROGRAM", "/bin/false"), self.assertRaisesRegex(SystemExit, "2 4 4 500 1 plain: status 1"):
             large.one_run(2, 4, 4, 500, "plain", None)
-
-    def test_the_memory_of_a_process_that_has_ended(self):
-        self.assertTrue(all(float(it) > 0 for it in rounds.memory(os.getpid())))
-        with subprocess.Popen(["true"]) as process:
-            os.waitid(os.P_PID, process.pid, os.WEXITED | os.WNOWAIT)
-            self.assertEqual(rounds.memory(process.pid), ["-", "-"])
 
     def test_a_table(self):
         told = measuring.table(("An item", "ns"), [("`SegQueue`", 1234.6), ("none", None)])

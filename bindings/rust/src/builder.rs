@@ -39,7 +39,7 @@ pub enum Shape {
 }
 
 /// The settings of a mailbox. [`Mailbox::builder`] and [`Mailbox::numbers`] return a builder. [`build`](Builder::build)
-/// refuses a number out of range. It may be called more than once, as for a new mailbox in each round.
+/// refuses a number out of range. It may be called more than once: each call builds a mailbox.
 #[must_use = "it builds no mailbox until `build` is called"]
 pub struct Builder<T> {
     producers: usize,

@@ -41,8 +41,7 @@
 //! - A [`Consumer`] takes from one lane, or from all in turn. It returns to its mailbox when it is dropped.
 //! - [`Mailbox::gather`] makes the [`Report`] after all producers and consumers were dropped.
 //!
-//! A mailbox takes as many items as it has cells, and uses no cell again. A long-lived service takes a [`channel`], or
-//! builds a mailbox for each round (`examples/rounds.rs`).
+//! A mailbox takes as many items as it has cells, and uses no cell again. A long-lived service takes a [`channel`].
 //!
 //! # What is proved, and what the types add
 //!

@@ -32,9 +32,6 @@ END
 prints two_threads <<'END'
 1000 letters were taken or left, and none twice
 END
-prints rounds <<'END'
-100 tasks had their turns, in 7 rounds
-END
 prints many_boxes <<'END'
 10000 boxes: 10000 taken, 0 left, each dropped once
 END

@@ -2,7 +2,7 @@
 
 use std::alloc::{AllocError, Global};
 use std::fmt;
-use std::sync::atomic::{AtomicU64, Ordering};
+use std::sync::atomic::{AtomicBool, AtomicU64, Ordering};
 
 /// Which jobs were run, and their total. Each run of job n adds n to the total.
 #[derive(Drop)]
@@ -17,6 +17,8 @@ pub struct Board {
     again: AtomicU64,
     /// The sum of what all runs added.
     total: AtomicU64,
+    /// Whether a worker has failed.
+    failed: AtomicBool,
 }
 
 impl Board {
@@ -33,41 +35,43 @@ impl Board {
             once: AtomicU64::new(0),
             again: AtomicU64::new(0),
             total: AtomicU64::new(0),
+            failed: AtomicBool::new(false),
         })
     }
 
-    /// Runs the job with this number. If there is no such job, it does nothing.
-    pub fn run(&self, job: u64) {
+    /// Runs the job with this number. If it was not run before, this returns how many jobs have been run with it. If there
+    /// is no such job, it does nothing.
+    pub fn run(&self, job: u64) -> Option<u64> {
         if job >= self.jobs {
-            return;
+            return None;
         }
-        let Some(word) = self.run.get((job / 64) as usize) else {
-            return;
-        };
+        let word = self.run.get((job / 64) as usize)?;
         let bit = 1u64 << (job % 64);
         let before = word.fetch_or(bit, Ordering::SeqCst);
-        let count = if before & bit == 0 {
-            &self.once
-        } else {
-            &self.again
-        };
-        count.fetch_add(1, Ordering::SeqCst);
         self.total.fetch_add(job, Ordering::SeqCst);
+        if before & bit != 0 {
+            self.again.fetch_add(1, Ordering::SeqCst);
+            return None;
+        }
+        Some(self.once.fetch_add(1, Ordering::SeqCst).wrapping_add(1))
     }
 
-    /// How many jobs were run, and how often a job was run that had been run before.
-    pub fn counts(&self) -> (u64, u64) {
-        (
-            self.once.load(Ordering::SeqCst),
-            self.again.load(Ordering::SeqCst),
-        )
+    /// Tells all workers that one of them has failed.
+    pub fn give_up(&self) {
+        self.failed.store(true, Ordering::SeqCst);
+    }
+
+    /// Whether a worker has failed.
+    pub fn was_given_up(&self) -> bool {
+        self.failed.load(Ordering::SeqCst)
     }
 }
 
 impl fmt::Display for Board {
     fn fmt<W: fmt::Write>(&self, f: &mut fmt::Formatter<W>) -> fmt::Result {
         let jobs = self.jobs;
-        let (once, again) = self.counts();
+        let once = self.once.load(Ordering::SeqCst);
+        let again = self.again.load(Ordering::SeqCst);
         let total = self.total.load(Ordering::SeqCst);
         write!(
             f,

@@ -1,21 +1,21 @@
-//! A scheduler whose jobs put further jobs. It runs any number of jobs, in the memory of one mailbox and of the jobs
-//! carried to the next round. Each round hands each worker the jobs that it took, and the workers run them in threads.
+//! A scheduler whose jobs put further jobs, over a channel. Each worker has a thread, a sender and a receiver: it receives
+//! a job, runs it, and sends the job that this one puts. Whoever runs the last job sends each worker a stop.
 #![tactic(auto)]
 
 mod board;
+mod crew;
 mod options;
-mod schedule;
-mod sources;
 mod worker;
 
 use anyhow::Result;
 use board::Board;
 use clap::Error;
+use crew::run_all;
 use options::{Options, options_of};
-use schedule::run_all;
 use std::process::ExitCode;
 use std::sync::Wait;
 use std::thread::Threads;
+use std::time::Clock;
 
 fn main(rt: HostRuntime) -> Result<ExitCode> {
     let words = std::env::args(&rt)?.collect::<Vec<String>>(rt.alloc())?;
@@ -25,14 +25,14 @@ fn main(rt: HostRuntime) -> Result<ExitCode> {
     }
 }
 
-/// Runs all jobs, and prints how many rounds it took and what the board says.
-fn run<R: AllocGlobal + Print + Eprint + Threads + Wait + Sync>(
+/// Runs all jobs, and prints what the board says.
+fn run<R: AllocGlobal + Print + Eprint + Clock + Threads + Wait + Sync>(
     rt: &R,
     options: &Options,
 ) -> Result<ExitCode> {
     let board = Board::new(rt.alloc(), options.jobs)?;
-    let rounds = run_all(rt, options, &board)?;
-    println!(rt; "{rounds} rounds\n{board}")?;
+    run_all(rt, options, &board)?;
+    println!(rt; "{board}")?;
     Ok(ExitCode::SUCCESS)
 }
 

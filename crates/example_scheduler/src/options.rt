@@ -2,45 +2,18 @@
 
 use clap::builder::ValueParser;
 use clap::{Arg, ArgAction, ArgMatches, Command, Error};
-use mb_quorum::TableName;
 use std::alloc::{AllocError, Global};
 use std::convert::AsStr;
 
 /// What the command line asks for.
 #[derive(Clone, Copy)]
 pub struct Options {
-    /// How many jobs there are.
+    /// How many jobs there are, 1 to 2^32.
     pub jobs: u64,
     /// How many workers run them, 1 to 64.
     pub workers: u64,
-    /// How many producers put the jobs of a round, 1 to 16.
-    pub producers: u64,
-    /// The most jobs that go into one round.
-    pub cells: u64,
-    /// The seed of the workers' random words.
-    pub seed: u64,
     /// After how many jobs a line goes to standard error. If this is 0, no line does.
     pub progress: u64,
-}
-
-impl Options {
-    /// The quorum table. `Middle` has fewer registers than `Bits` for more than four workers.
-    pub fn table(&self) -> TableName {
-        if self.workers > 4 {
-            TableName::Middle
-        } else {
-            TableName::Bits
-        }
-    }
-}
-
-/// An option that takes a number.
-fn option<'a>(alloc: Global, name: &'a str, meaning: &'a str) -> Arg<'a> {
-    Arg::new(alloc, name)
-        .long(name)
-        .value_name("N")
-        .help(meaning)
-        .action(ArgAction::Set)
 }
 
 /// An option that takes a number from `low` to `high`.
@@ -52,50 +25,31 @@ fn number<'a>(
     high: u64,
     meaning: &'a str,
 ) -> Arg<'a> {
-    option(alloc, name, meaning)
+    Arg::new(alloc, name)
+        .long(name)
+        .value_name("N")
+        .help(meaning)
+        .action(ArgAction::Set)
         .value_parser(ValueParser::unsigned(low, high))
         .default_value(default)
 }
 
-/// An option that takes any number.
-fn any_number<'a>(alloc: Global, name: &'a str, default: &'a str, meaning: &'a str) -> Arg<'a> {
-    number(alloc, name, default, 0, u64::MAX, meaning)
-}
-
 /// The command line, as clap needs it.
 fn command<'a>(alloc: Global) -> Result<Command<'a>, AllocError> {
-    let jobs = number(alloc, "jobs", "1000", 0, 1 << 32, "How many jobs there are");
+    let jobs = number(alloc, "jobs", "1000", 1, 1 << 32, "How many jobs there are");
     let workers = number(alloc, "workers", "4", 1, 64, "How many workers run them");
-    let producers = number(
-        alloc,
-        "producers",
-        "2",
-        1,
-        16,
-        "How many producers put the jobs of a round",
-    );
-    let cells = number(
-        alloc,
-        "cells",
-        "64",
-        1,
-        1 << 24,
-        "How many jobs go into one round at most",
-    );
-    let seed = any_number(alloc, "seed", "0", "The seed of the workers' random words");
-    let progress = any_number(
+    let progress = number(
         alloc,
         "progress",
         "0",
+        0,
+        u64::MAX,
         "After how many jobs a line goes to standard error, if not 0",
     );
     Command::new(alloc, "scheduler")
-        .about("Runs jobs that put further jobs, in rounds over mailboxes")
+        .about("Runs jobs that put further jobs, over a channel")
         .arg(jobs)?
         .arg(workers)?
-        .arg(producers)?
-        .arg(cells)?
-        .arg(seed)?
         .arg(progress)
 }
 
@@ -110,9 +64,6 @@ pub fn options_of<S: AsStr>(alloc: Global, words: &[S]) -> Result<Options, Error
     Ok(Options {
         jobs: number_given(&given, "jobs"),
         workers: number_given(&given, "workers"),
-        producers: number_given(&given, "producers"),
-        cells: number_given(&given, "cells"),
-        seed: number_given(&given, "seed"),
         progress: number_given(&given, "progress"),
     })
 }

@@ -1,11 +1,30 @@
-//! Workers, and the jobs that their jobs put.
-ghost use Rattle.std.specs.Prelude.{◌≡◌, ◌+◌, ◌<◌, IfSome};
+//! A worker, and the jobs that its jobs put.
+ghost use Rattle.std.specs.Prelude.{◌≡◌, ◌+◌, ◌<◌, IfOk, IfSome};
+ghost use Rattle.mb_channel.specs.Ends.{IsEndOf};
+ghost use Rattle.example_scheduler.specs.Crew.{IsOf};
 
 use crate::board::Board;
-use std::alloc::{AllocError, Global};
+use crate::options::Options;
+use anyhow::{Result, bail};
+use mb_channel::{Channel, Receiver, Sender};
+use std::alloc::AllocError;
+use std::sync::Wait;
+use std::time::{Clock, Duration, Instant};
 
 /// How many jobs a chain has. Each job of a chain puts the next one, except for the last.
 pub const CHAIN: u64 = 8;
+
+/// After how many milliseconds without a task a worker looks whether another one has given up.
+const PATIENCE: u64 = 500;
+
+/// What a worker is sent.
+#[derive(Clone, Copy)]
+pub enum Task {
+    /// The job with this number.
+    Run(u64),
+    /// All jobs were run.
+    Stop,
+}
 
 /// The job that this job puts, if it puts one.
 fn further(job: u64, jobs: u64) -> Option<u64>
@@ -18,44 +37,123 @@ fn further(job: u64, jobs: u64) -> Option<u64>
     Some(next)
 }
 
-/// A worker runs jobs, and keeps the further jobs that these put.
+/// A worker: it receives jobs, and sends the jobs that these put.
 #[derive(Drop)]
 pub struct Worker {
-    /// The further jobs that were put since the last `forget`.
-    further: Vec<u64>,
-    /// Whether there was no memory for some further job.
-    refused: bool,
+    pub sender: Sender<Task>,
+    pub receiver: Receiver<Task>,
+}
+
+/// Sends a task. The error is that memory was refused: the channel is never closed, and few ends are in a segment.
+pub fn send<R: Wait>(
+    rt: &R,
+    channel: &Channel<Task>,
+    sender: &mut Sender<Task>,
+    task: Task,
+) -> Result<(), AllocError>
+    requires channel { IsEndOf channel.now sender.old.end }
+    ensures channel { IsEndOf channel.now sender.new.end }
+{
+    match channel.send(rt, sender, task) {
+        Ok(()) => Ok(()),
+        Err(_) => Err(AllocError),
+    }
 }
 
 impl Worker {
-    /// A worker that has run nothing.
-    pub fn new(alloc: Global) -> Worker {
-        Worker {
-            further: Vec::new(alloc),
-            refused: false,
-        }
+    /// Another worker of the channel.
+    pub fn another<R: Wait>(
+        &mut self,
+        rt: &R,
+        channel: &Channel<Task>,
+    ) -> Result<Worker, AllocError>
+        requires belongs { IsOf channel.now self.old }
+        ensures belongs { IsOf channel.now self.new }
+        ensures other { IfOk result (λ other. IsOf channel.now other) }
+    {
+        let sender = channel
+            .another_sender(rt, &mut self.sender)
+            .ok_or(AllocError)?;
+        let receiver = channel
+            .another_receiver(rt, &mut self.receiver)
+            .ok_or(AllocError)?;
+        Ok(Worker { sender, receiver })
     }
 
-    /// Runs these jobs, and keeps the jobs that they put. `jobs` is the number of all jobs.
-    pub fn run(&mut self, board: &Board, taken: &[u64], jobs: u64) {
-        for job in taken {
-            board.run(*job);
-            if let Some(next) = further(*job, jobs) {
-                self.refused |= self.further.push(next).is_err();
+    /// Works until it is told to stop. If it fails, each other worker stops too, when it next finds no task.
+    pub fn work<R: Eprint + Clock + Wait>(
+        self,
+        rt: &R,
+        channel: &Channel<Task>,
+        board: &Board,
+        options: &Options,
+    ) -> Result<()>
+        requires belongs { IsOf channel.now self }
+    {
+        let mut worker = self;
+        let end = worker.run_jobs(rt, channel, board, options);
+        if end.is_err() {
+            board.give_up();
+        }
+        end
+    }
+
+    /// Runs jobs until it is told to stop, or until another worker has given up.
+    fn run_jobs<R: Eprint + Clock + Wait>(
+        &mut self,
+        rt: &R,
+        channel: &Channel<Task>,
+        board: &Board,
+        options: &Options,
+    ) -> Result<()>
+        requires belongs { IsOf channel.now self.old }
+    {
+        for _ in rt.forever() {
+            if board.was_given_up() {
+                break;
+            }
+            let now = Instant::now(rt)?;
+            let soon = now
+                .checked_add(Duration::from_millis(PATIENCE))
+                .unwrap_or(now);
+            match channel.receive_by(rt, &mut self.receiver, soon) {
+                Ok(Some(Task::Run(job))) => self.run(rt, channel, board, options, job)?,
+                Ok(Some(Task::Stop)) => break,
+                Ok(None) => {}
+                // The channel is never closed, and few ends are in a segment.
+                Err(_) => bail!("the channel refused a receiver"),
             }
         }
+        Ok(())
     }
 
-    /// The further jobs that were put since the last `forget`. The error is that there was no memory for one of them.
-    pub fn further(&self) -> Result<&[u64], AllocError> {
-        if self.refused {
-            return Err(AllocError);
+    /// Runs a job, and sends the job that it puts, or after the last job the stops.
+    fn run<R: Eprint + Wait>(
+        &mut self,
+        rt: &R,
+        channel: &Channel<Task>,
+        board: &Board,
+        options: &Options,
+        job: u64,
+    ) -> Result<(), AllocError>
+        requires belongs { IsOf channel.now self.old }
+        ensures belongs { IsOf channel.now self.new }
+    {
+        let Some(many) = board.run(job) else {
+            return Ok(());
+        };
+        if options.progress != 0 && many % options.progress == 0 {
+            // A line that cannot be written is no reason to stop the work.
+            let _ = eprintln!(rt; "{many} jobs were run");
         }
-        Ok(self.further.as_slice())
-    }
-
-    /// Forgets the further jobs.
-    pub fn forget(&mut self) {
-        self.further.clear();
+        if let Some(next) = further(job, options.jobs) {
+            send(rt, channel, &mut self.sender, Task::Run(next))?;
+        }
+        if many == options.jobs {
+            for _ in 0..options.workers {
+                send(rt, channel, &mut self.sender, Task::Stop)?;
+            }
+        }
+        Ok(())
     }
 }

@@ -6,7 +6,6 @@ use crate::rationed::{four_are_served, two_are_served};
 use crate::refused_mailboxes::{
     Alloc, consumer_is_served, gather_is_served, new_is_served, producer_is_served,
 };
-use crate::rounds::round_is_served;
 use std::process::Abort;
 use std::sync::Wait;
 use std::test::Fail;
@@ -24,8 +23,6 @@ enum Call {
     Gather(Scene),
     TwoWorkers,
     FourWorkers,
-    /// A round after items were handed in.
-    Round,
 }
 
 /// Makes the call over the first allocator, and all that it needs besides over the second one. Returns whether the
@@ -43,7 +40,6 @@ fn is_served<'r, R: Abort + Threads + Wait + Sync>(
         Call::Gather(scene) => gather_is_served(rt, alloc, ample, scene),
         Call::TwoWorkers => two_are_served(rt, alloc, ample),
         Call::FourWorkers => four_are_served(rt, alloc, ample),
-        Call::Round => round_is_served(rt, alloc, ample),
     }
 }
 
@@ -140,8 +136,6 @@ const CALLS: &[(&str, Call, u64)] = &[
     ("two workers", Call::TwoWorkers, 6),
     // Three lists for the workers, each producer's items, each consumer's marks and words.
     ("four workers", Call::FourWorkers, 9),
-    // The items, two lists of lists with two lists each, and ten of the mailbox, its workers and what comes out.
-    ("round", Call::Round, 17),
 ];
 
 /// Checks that the call is refused if any of its allocations is, keeps no memory, and is then served. Checks that it

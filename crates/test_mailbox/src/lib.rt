@@ -20,8 +20,6 @@ mod rationed;
 #[cfg(test)]
 mod refused_mailboxes;
 #[cfg(test)]
-mod rounds;
-#[cfg(test)]
 mod scenes;
 #[cfg(test)]
 mod takes;

@@ -1,7 +1,6 @@
-//! How the faults of a hub, of `gather`, of `work` and of a round are displayed.
+//! How the faults of a hub, of `gather` and of `work` are displayed.
 
 use mb_mailbox::{GatherFault, HubFault, WorkFault};
-use mb_rounds::RoundFault;
 use std::test::Fail;
 use test_support::check_display;
 
@@ -34,24 +33,6 @@ const WORK_FAULTS: &[(WorkFault, &str)] = &[
 #[test]
 fn text_of_workers(rt: HostRuntime) -> Result<(), Fail> {
     for (fault, text) in WORK_FAULTS {
-        check_display(&rt, fault, text)?;
-    }
-    Ok(())
-}
-
-const ROUND_FAULTS: &[(RoundFault, &str)] = &[
-    (
-        RoundFault::TooManySources,
-        "there are more sources than consumers",
-    ),
-    (RoundFault::BadBudget, "the budget is 0"),
-    (RoundFault::NoMemory, "out of memory"),
-    (RoundFault::NoThread, "a thread could not be started"),
-];
-
-#[test]
-fn text_of_rounds(rt: HostRuntime) -> Result<(), Fail> {
-    for (fault, text) in ROUND_FAULTS {
         check_display(&rt, fault, text)?;
     }
     Ok(())

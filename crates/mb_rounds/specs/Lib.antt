@@ -1,4 +1,0 @@
-pub mod Carried
-pub mod Round
-pub mod Turns
-pub mod TurnSamples
