@@ -1,8 +1,7 @@
 -- What holds of every lawful history of one conciliator.
-use Rattle.std.proofs.Common.{◌≡◌, ◌≢◌, ℕ, ◌+◌, ◌-◌, ◌<◌, ◌≤◌, ◌⊎◌, Option, Some, None, List, [], ◌∷◌, inl, inr, sym, refl, ap, ◌∙◌, subst}
+use Rattle.std.proofs.Common.{◌≡◌, ℕ, ◌+◌, ◌<◌, ◌≤◌, ◌⊎◌, Option, Some, None, List, [], ◌∷◌, inl, inr, sym, refl, ap, ◌∙◌, subst}
 use Rattle.std.proofs.Common.{arith}
 use Rattle.std.specs.List.{cons_option}
-use Rattle.std.proofs.lemmas.Bool.{cases_eq}
 use Rattle.mb_deciding.specs.{Reg, Value, Proposal, Quorum, Last, Act, Load, Store, Exchange, Turn, Access, Conciliator, Object}
 use Rattle.mb_deciding.specs.{object_of, conciliator_of, value_after, value_in, stored_by, ReadsLast, part, IsPut}
 use Rattle.mb_deciding.specs.{IsPrefix, IsObjectLawful, CanHold, IsValid, IsFirstMover, stores_in}

@@ -8,7 +8,7 @@ use Rattle.mb_deciding.specs.declared.access.Act.TheVariants.{Exchange}
 use Rattle.mb_deciding.specs.declared.access.Reg.TheVariants.{Last}
 use Rattle.mb_deciding.specs.declared.object.Kind.{Kind}
 use Rattle.mb_deciding.specs.declared.object.Kind.TheVariants.{LastObject}
-use Rattle.mb_deciding.specs.Vocabulary.{ReadsLast, last_of}
+use Rattle.mb_deciding.specs.Vocabulary.{ReadsLast, object_of}
 use Rattle.mb_deciding.proofs.Histories.{value_from}
 use Rattle.mb_deciding.proofs.Lasts.{holds_inputs}
 use Rattle.mb_claim.specs.declared.access.Stage.TheVariants.{Going, Lost, Undecided, Won}
@@ -24,8 +24,8 @@ pub holds_other :
     (cs : Claims) (k c : ℕ) (inputs : ℕ → ℕ) (h : List ClaimAccess) → IsUsedWith cs k 0 LastObject inputs h
     → ((b : ℕ) → part_at b k 0 h ≢ [] → inputs b ≡ b) → part_on c k h ≡ [] → held_at k 0 Last h ≢ c + 1
 holds_other cs k c inputs h used own none holds =
-    let t = cs.table in
-    let x = value_from (last_of t inputs) Last (holds_inputs t inputs) (object_history k 0 h) used.lawful c holds in
+    let o = object_of cs.table LastObject inputs in
+    let x = value_from o Last (holds_inputs cs.table inputs) (object_history k 0 h) used.lawful c holds in
     let same : c ≡ x.0 = sym x.2 ∙ own x.0 x.1 in
     x.1 (subst (λ b. part_at b k 0 h ≡ []) same (part-object_history c k 0 h ∙ ap (turns_at 0) none))
 
