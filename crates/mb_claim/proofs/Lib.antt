@@ -49,5 +49,5 @@ pub mod OnePlay
 -- Samples
 pub mod LawfulSamples
 pub mod ShapedSamples
-pub mod AloneSamples
+pub mod LastSamples
 pub mod UnlawfulSamples

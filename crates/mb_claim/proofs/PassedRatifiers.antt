@@ -18,7 +18,7 @@ pub record CameUndecided (t : QuorumTable) (c : ℕ) (kind : Kind) (ks : List Ki
   pub ahead : (n : ℕ) → o < n → turns_at n xs ≡ turns_at n later
 
 -- a consumer whose part has a turn on a later object was left undecided by object o
-came_undecided :
+pub came_undecided :
     (t : QuorumTable) (c : ℕ) (kind : Kind) (ks : List Kind) (o v n : ℕ) (xs : List ObjectTurn) (s : Stage) → o < n
     → IsClaimPrefixFrom t c (kind ∷ ks) o v xs s → turns_at n xs ≢ [] → CameUndecided t c kind ks o v xs s
 came_undecided t c kind ks o v n xs s below (inl x) some =

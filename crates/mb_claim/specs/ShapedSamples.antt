@@ -1,5 +1,5 @@
--- Histories of claims on one cell, for two consumers over the unary table: with a fast path and one pair, and with a last
--- object alone. Some are lawful, and some are not.
+-- Histories of claims on one cell, for two consumers over the unary table: with one pair and a fast path or a last
+-- object, and with a last object alone. Some are lawful, and some are not.
 use Rattle.std.specs.Prelude.{true, false, List, [], ◌∷◌}
 use Rattle.mb_quorum.specs.Unary.{unary_table}
 use Rattle.mb_claim.specs.AllClaims.{Claims, claims_of}
@@ -31,6 +31,15 @@ lost_at_second =
 -- not lawful: consumer 0 begins with the conciliator
 abbrev pub skip_both_ratifiers : List ClaimAccess
 skip_both_ratifiers = access_at 0 2 (Load Value 0) ∷ []
+
+-- ---- a last object after the pair
+-- the claims of two consumers on one cell with one pair over the unary table and a last object
+abbrev pub two_with_last : Claims
+two_with_last = claims_of (unary_table 2) (row_of with_last 2 1) 1
+
+-- not lawful: consumer 0 begins with the last object
+abbrev pub last_comes_first : List ClaimAccess
+last_comes_first = access_at 0 2 (Exchange Last 1 0) ∷ []
 
 -- ---- a last object alone
 -- the claims of two consumers on one cell with a last object alone

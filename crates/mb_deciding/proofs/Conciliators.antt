@@ -1,13 +1,12 @@
 -- What holds of every lawful history of one conciliator.
-use Rattle.std.proofs.Common.{◌≡◌, ◌≢◌, ℕ, ◌+◌, ◌-◌, ◌<◌, ◌≤◌, ◌⊎◌, Option, Some, None, List, [], ◌∷◌, inl, inr, sym, refl, ap, ◌∙◌, subst}
+use Rattle.std.proofs.Common.{◌≡◌, ℕ, ◌+◌, ◌<◌, ◌≤◌, ◌⊎◌, Option, Some, None, List, [], ◌∷◌, inl, inr, sym, refl, ap, ◌∙◌, subst}
 use Rattle.std.proofs.Common.{arith}
 use Rattle.std.specs.List.{cons_option}
-use Rattle.std.proofs.lemmas.Bool.{cases_eq}
 use Rattle.mb_deciding.specs.{Reg, Value, Proposal, Quorum, Last, Act, Load, Store, Exchange, Turn, Access, Conciliator, Object}
 use Rattle.mb_deciding.specs.{object_of, conciliator_of, value_after, value_in, stored_by, ReadsLast, part, IsPut}
 use Rattle.mb_deciding.specs.{IsPrefix, IsObjectLawful, CanHold, IsValid, IsFirstMover, stores_in}
 use Rattle.mb_quorum.specs.Quorum.{QuorumTable}
-use Rattle.mb_deciding.proofs.Histories.{lawful_older, own_turns, own_some, some_kept, since_newest}
+use Rattle.mb_deciding.proofs.Histories.{HoldsInputs, IsFrom, from_kept, lawful_older, own_turns, own_some, since_newest, value_from, value_small as small}
 use Rattle.mb_deciding.proofs.ConciliatorPaths.{StoresInput, path_stores, path_last}
 
 -- n is in the list
@@ -95,22 +94,9 @@ module _ (t : QuorumTable) (s : ℕ) (inputs : ℕ → ℕ) where
       (l.parts a.process (own_some a h)).1 in
       path_stores s (inputs a.process) a.turn (part a.process h) p.0 p.1.value p.2.1
 
-  -- u is the input of a process with a turn
-  abbrev IsFrom : List Access → ℕ → Type 0
-  IsFrom h u = (b : ℕ) × (part b h ≢ []) × (inputs b ≡ u)
-
-  -- if u is the input of a process with a turn, it is still so after one access more
-  from_kept : (a : Access) (h : List Access) (u : ℕ) → IsFrom h u → IsFrom (a ∷ h) u
-  from_kept a h u f = (f.0, some_kept f.0 a h f.1, f.2)
-
-  -- a value in the word is the input of a process with a turn
-  value_from : (h : List Access) → L h → (u : ℕ) → value_in Value h ≡ u + 1 → IsFrom h u
-  value_from [] l u e = absurd (omega arith)
-  value_from (a ∷ h) l u e =
-      elim (act_value (inputs a.process) u a.turn.act (value_in Value h) (newest_stores a h l) e) [
-        | inl k ↦ from_kept a h u (value_from h (lawful_older (conciliator_of t s inputs) a h l) u k)
-        | inr k ↦ (a.process, own_some a h, k)
-      ]
+  -- the word holds inputs
+  holds_inputs : HoldsInputs (conciliator_of t s inputs) Value
+  holds_inputs a h l u e = act_value (inputs a.process) u a.turn.act (value_in Value h) (newest_stores a h l) e
 
   -- the value in the word is among the values stored
   value_stored : (h : List Access) → L h → (u : ℕ) → value_in Value h ≡ u + 1 → IsAmong (stores_in h) (u + 1)
@@ -127,12 +113,13 @@ module _ (t : QuorumTable) (s : ℕ) (inputs : ℕ → ℕ) where
 
   -- each output is the input of a process with an access
   pub valid : (h : List Access) → L h → IsValid (conciliator_of t s inputs) h
-  valid h l p d u o =
-      let end = path_last s (inputs p) (part p h) u o.1 in
-      since_newest (conciliator_of t s inputs) (λ g. IsFrom g u) end.0
-      (λ a g k same. from_kept a g u (value_from g (lawful_older (conciliator_of t s inputs) a g k) u
+  valid h l p d u out =
+      let end = path_last s (inputs p) (part p h) u out.1 in
+      let o = conciliator_of t s inputs in
+      since_newest o (λ g. IsFrom o g u) end.0
+      (λ a g k same. from_kept o a g u (value_from o Value holds_inputs g (lawful_older o a g k) u
       (newest_load a g k end.0 u end.2 same)))
-      (λ a g k f. from_kept a g u f)
+      (λ a g k f. from_kept o a g u f)
       h l p end.1 end.3
 
   -- if the last turn of a process loaded a value, that value is among those stored
@@ -167,15 +154,7 @@ module _ (t : QuorumTable) (s : ℕ) (inputs : ℕ → ℕ) where
 
   -- the word holds 0, or one more than a value
   pub value_small : (h : List Access) → L h → value_in Value h ≤ t.values
-  value_small h l =
-      elim (cases_eq (value_in Value h) 0) [
-        | inl e ↦ omega arith
-        | inr e ↦ (let n : ℕ = value_in Value h - 1 in
-            let is : value_in Value h ≡ n + 1 = omega arith in
-            let from = value_from h l n is in
-            let below : n < t.values = subst (λ w. w < t.values) from.2 (l.parts from.0 from.1).0 in
-            omega arith)
-      ]
+  value_small h l = small (conciliator_of t s inputs) Value holds_inputs h l
 
   -- a history of a conciliator leaves 0 in the proposal
   no_proposal : (h : List Access) → L h → value_in Proposal h ≡ 0

@@ -1,9 +1,9 @@
 -- One access more, or one less, in a lawful history of an object of any kind. Also lists that are empty or are not.
-use Rattle.std.proofs.Common.{◌≡◌, ◌≢◌, ℕ, ◌<◌, ◌==◌, ◌⊎◌, cond, Bool, true, false, Some, None, List, [], ◌∷◌, ◌++◌}
-use Rattle.std.proofs.Common.{inl, inr, sym, refl, ap, ◌∙◌, subst, append_assoc}
+use Rattle.std.proofs.Common.{◌≡◌, ◌≢◌, ℕ, ◌<◌, ◌≤◌, ◌+◌, ◌-◌, ◌==◌, ◌⊎◌, cond, Bool, true, false, Some, None, List, [], ◌∷◌, ◌++◌}
+use Rattle.std.proofs.Common.{inl, inr, sym, refl, ap, ◌∙◌, subst, append_assoc, arith}
 use Rattle.std.specs.List.{cons_option}
-use Rattle.std.proofs.lemmas.Bool.{eq-eqb, eqb-true}
-use Rattle.mb_deciding.specs.{Turn, Access, Kind, Object, IsInWords, ReadsLast, part, IsPath, IsPrefix, IsObjectLawful}
+use Rattle.std.proofs.lemmas.Bool.{cases_eq, eq-eqb, eqb-true}
+use Rattle.mb_deciding.specs.{Reg, Turn, Access, Kind, Object, IsInWords, ReadsLast, part, value_in, IsPath, IsPrefix, IsObjectLawful}
 use Rattle.mb_quorum.specs.Quorum.{QuorumTable}
 
 -- a list with a first element is not empty
@@ -106,3 +106,44 @@ since_newest o P last made kept (a ∷ h) l p rest is =
         → cons_option (cond own (Some a.turn) None) (part p h) ≡ last ∷ rest → P (a ∷ h)
     by deeper true k = made a h l (let same : a.turn ≡ last = cc in same)
     by deeper false k = kept a h l (deeper k)
+
+-- ---- words that hold inputs
+-- u is the input of a process with a turn
+abbrev pub IsFrom : Object → List Access → ℕ → Type 0
+IsFrom o h u = (b : ℕ) × (part b h ≢ []) × (o.inputs b ≡ u)
+
+-- if u is the input of a process with a turn, it is still so after one access more
+pub from_kept : (o : Object) (a : Access) (h : List Access) (u : ℕ) → IsFrom o h u → IsFrom o (a ∷ h) u
+from_kept o a h u f = (f.0, some_kept f.0 a h f.1, f.2)
+
+-- a value in the word was there before the newest access, or it is the input of that access's process
+abbrev pub HoldsInputs : Object → Reg → Type 0
+HoldsInputs o reg =
+    (a : Access) (h : List Access) → IsObjectLawful o (a ∷ h) → (u : ℕ) → value_in reg (a ∷ h) ≡ u + 1
+    → (value_in reg h ≡ u + 1) ⊎ (o.inputs a.process ≡ u)
+
+-- a value in the word is the input of a process with a turn
+pub value_from :
+    (o : Object) (reg : Reg) → HoldsInputs o reg → (h : List Access) → IsObjectLawful o h → (u : ℕ)
+    → value_in reg h ≡ u + 1 → IsFrom o h u
+value_from o reg holds [] l u e = absurd (omega (arith, e))
+value_from o reg holds (a ∷ h) l u e =
+    elim (holds a h l u e) [
+      | inl k ↦ from_kept o a h u (value_from o reg holds h (lawful_older o a h l) u k)
+      | inr k ↦ (a.process, own_some a h, k)
+    ]
+
+-- the word holds 0, or one more than a value
+pub value_small :
+    (o : Object) (reg : Reg) → HoldsInputs o reg → (h : List Access) → IsObjectLawful o h
+    → value_in reg h ≤ o.table.values
+value_small o reg holds h l =
+    elim (cases_eq (value_in reg h) 0) [
+      | inl none ↦ omega (arith, none)
+      | inr some ↦
+          (let n : ℕ = value_in reg h - 1 in
+          let is : value_in reg h ≡ n + 1 = omega (arith, some) in
+          let from = value_from o reg holds h l n is in
+          let below : n < o.table.values = subst (λ w. w < o.table.values) from.2 (l.parts from.0 from.1).0 in
+          omega (arith, below, is))
+    ]

@@ -1,5 +1,5 @@
 -- The paths of a last object, and what holds of every lawful history of one.
-use Rattle.std.proofs.Common.{◌≡◌, ◌≢◌, ℕ, zero, suc, ◌+◌, ◌-◌, ◌<◌, ◌≤◌, ◌==◌, cond, Bool, true, false, Option, Some}
+use Rattle.std.proofs.Common.{◌≡◌, ◌≢◌, ℕ, zero, suc, ◌+◌, ◌≤◌, ◌==◌, cond, Bool, true, false, Option, Some}
 use Rattle.std.proofs.Common.{None, List, [], ◌∷◌, ◌++◌, length, inl, inr, sym, refl, ap, ap₂, ◌∙◌, subst}
 use Rattle.std.proofs.Common.{arith}
 use Rattle.std.specs.Option.{option_map_or}
@@ -9,7 +9,7 @@ use Rattle.mb_deciding.specs.{Reg, Value, Proposal, Quorum, Last, Exchange, Op, 
 use Rattle.mb_deciding.specs.{LastPlace, last_of, value_after, value_in, ReadsLast, IsSameOp, part, IsLastPath, answer, IsPath}
 use Rattle.mb_deciding.specs.{IsPrefix, IsOpen, IsObjectLawful, CanHold, IsValid, IsCoherent, PcIsAt, IsLastOp}
 use Rattle.mb_deciding.specs.{CanFind, act_of, seen_by, most_turns}
-use Rattle.mb_deciding.proofs.Histories.{not_empty, lawful_older, own_turns, own_some, some_kept, since_newest}
+use Rattle.mb_deciding.proofs.Histories.{HoldsInputs, not_empty, lawful_older, own_turns, own_some, since_newest, value_from, value_small}
 
 -- ---- the paths of a last object
 -- a path has one turn, so nothing comes before or after it
@@ -161,19 +161,12 @@ module _ (t : QuorumTable) (inputs : ℕ → ℕ) where
   value_comes a h l none =
       after_newest a h l ∙ empty_exchanged (inputs a.process + 1) (value_in Last h) none
 
-  -- u is the input of a process with a turn
-  abbrev IsFrom : List Access → ℕ → Type 0
-  IsFrom h u = (b : ℕ) × (part b h ≢ []) × (inputs b ≡ u)
-
-  -- a value in the word is the input of a process with an access
-  value_from : (h : List Access) → L h → (u : ℕ) → value_in Last h ≡ u + 1 → IsFrom h u
-  value_from [] l u e = absurd (omega (arith, e))
-  value_from (a ∷ h) l u e =
+  -- the word holds inputs
+  pub holds_inputs : HoldsInputs (last_of t inputs) Last
+  holds_inputs a h l u e =
       elim (cases_eq (value_in Last h) 0) [
-        | inl none ↦ (a.process, own_some a h, omega (arith, value_comes a h l none, e))
-        | inr some ↦
-            (let f = value_from h (lawful_older (last_of t inputs) a h l) u (sym (value_stays a h l some) ∙ e) in
-            (f.0, some_kept f.0 a h f.1, f.2))
+        | inl none ↦ inr (omega (arith, value_comes a h l none, e))
+        | inr some ↦ inl (sym (value_stays a h l some) ∙ e)
       ]
 
   -- right after the one turn of a path with the value u the word holds u + 1
@@ -210,7 +203,8 @@ module _ (t : QuorumTable) (inputs : ℕ → ℕ) where
   -- ---- the promises of a last object
   -- each output is the input of a process with an access
   pub last_valid : (h : List Access) → L h → IsValid (last_of t inputs) h
-  last_valid h l p d u o = value_from h l u (output_holds h l p u (part p h) refl o.1)
+  last_valid h l p d u o =
+      value_from (last_of t inputs) Last holds_inputs h l u (output_holds h l p u (part p h) refl o.1)
 
   -- all outputs have one value
   pub last_coherent : (h : List Access) → L h → IsCoherent (last_of t inputs) h
@@ -221,16 +215,7 @@ module _ (t : QuorumTable) (inputs : ℕ → ℕ) where
 
   -- the word holds 0, or one more than a value
   last_small : (h : List Access) → L h → value_in Last h ≤ t.values
-  last_small h l =
-      elim (cases_eq (value_in Last h) 0) [
-        | inl none ↦ omega (arith, none)
-        | inr some ↦
-            (let n : ℕ = value_in Last h - 1 in
-            let is : value_in Last h ≡ n + 1 = omega (arith, some) in
-            let from = value_from h l n is in
-            let below : n < t.values = subst (λ w. w < t.values) from.2 (l.parts from.0 from.1).0 in
-            omega (arith, below, is))
-      ]
+  last_small h l = value_small (last_of t inputs) Last holds_inputs h l
 
   -- a history of a last object leaves 0 in the word of a conciliator
   no_value : (h : List Access) → L h → value_in Value h ≡ 0

@@ -169,5 +169,12 @@ impatient_no_path (x ∷ y ∷ z ∷ later) u h =
     ]
 
 -- `impatient_turns` is not a prefix of a path
-pub impatient_refused : IsPrefix (unary_table 2) (Conciliator 2) 0 impatient_turns → ⊥
-impatient_refused prefix = impatient_no_path prefix.0 prefix.1.value prefix.2.1
+pub impatient_no_part : IsPrefix (unary_table 2) (Conciliator 2) 0 impatient_turns → ⊥
+impatient_no_part prefix = impatient_no_path prefix.0 prefix.1.value prefix.2.1
+
+-- the history of `impatient_turns` is not lawful
+pub impatient_refused : IsObjectLawful (object_of (unary_table 2) (Conciliator 2) zero_inputs)
+    (history_of_one impatient_turns) → ⊥
+impatient_refused l =
+    impatient_no_part (part_alone (unary_table 2) (Conciliator 2) impatient_turns
+    (not_empty (turn 3 (Store Value 1)) (turn 3 (Load Value 0) ∷ [])) l)

@@ -26,7 +26,8 @@ pub fn small_histories()
     ensures patient_output { HasOutput small_conciliator 0 false 0 (history_of_one patient_turns) }
 
     // Process 0 stores on attempt 0, although with the random word 3 it may not.
-    ensures impatient { IsPrefix (unary_table 2) (Conciliator 2) 0 impatient_turns → ⊥ }
+    ensures impatient { IsObjectLawful small_conciliator (history_of_one impatient_turns) → ⊥ }
+    ensures impatient_part { IsPrefix (unary_table 2) (Conciliator 2) 0 impatient_turns → ⊥ }
 {}
 
 /// Histories of a last object, each input the process's own number, and turns of one process. `→ ⊥` refuses them.

@@ -1,5 +1,5 @@
 -- The faults of a replay.
-use Rattle.std.specs.Prelude.{◌≢◌, Result}
+use Rattle.std.specs.Prelude.{Result}
 use Rattle.mb_script.specs.declared.fault.Fault.{Fault}
 use Rattle.mb_script.specs.declared.fault.Fault.TheVariants.{TooLong, NoMemory, ReadFault, WriteFault}
 use Rattle.mb_script.specs.declared.transfer.ReadEnd.{ReadEnd}
@@ -11,10 +11,6 @@ abbrev pub fault_at : ReadEnd → Fault
 fault_at end.TooLong = TooLong
 fault_at end.NoMemory = NoMemory
 fault_at end.ReadFault = ReadFault
-
--- a fault that lies in the script, and not in memory or a device
-abbrev pub LiesInScript : Fault → Type 0
-LiesInScript e = (e ≢ NoMemory) × (e ≢ ReadFault) × (e ≢ WriteFault)
 
 -- the call returned what was to be read (`read`), seen by `view`, unless memory ran out. No device fails in the call
 abbrev pub Gives : {X Y : Type 0} → (X → Y) → Result X Fault → Result Y Fault → Type 0

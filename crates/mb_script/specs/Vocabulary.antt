@@ -9,7 +9,7 @@ pub use Rattle.mb_script.specs.ReportText.{diary_text, lanes_text, note_text, re
 pub use Rattle.mb_script.specs.Steps.{◌>>=◌, GivesUnless}
 pub use Rattle.mb_script.specs.Tables.{table_name, table_named}
 pub use Rattle.mb_script.specs.Shapes.{shape_named, shape_of_word, shape_with, shape_words, words_with}
-pub use Rattle.mb_script.specs.Faults.{Gives, LiesInScript, fault_at}
+pub use Rattle.mb_script.specs.Faults.{Gives, fault_at}
 pub use Rattle.mb_script.specs.Scripts.{SetupLine, Script, consumer_in, has_consumer, lane_of, made_from, made_of, number_at, script_with, view}
 unfoldable pub use Rattle.mb_script.specs.Scripts.{
   event_at,

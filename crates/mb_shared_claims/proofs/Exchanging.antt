@@ -1,17 +1,16 @@
 -- The claim on a cell that has a last object alone: its only access, and how that ends it.
 use Rattle.std.proofs.Common.{rules, ◌≡◌, ◌≢◌, ◌==◌, ◌+◌, ◌≤◌, ℕ, Bool, zero, suc, List, [], ◌∷◌, true, refl, inl, inr, ap, ◌∙◌, sym, subst, arith}
 use Rattle.std.specs.Prelude.{MatchOption, false, if◌then◌else◌, slice_get}
-use Rattle.std.proofs.lemmas.Bool.{cases_eq, ne_eqb}
+use Rattle.std.proofs.lemmas.Bool.{ne_eqb}
 use Rattle.mb_quorum.specs.Vocabulary.{IsQuorumTable, QuorumTable}
-use Rattle.mb_deciding.specs.declared.access.Access.{Access}
 use Rattle.mb_deciding.specs.declared.access.Op.TheVariants as to
 use Rattle.mb_deciding.specs.declared.access.Act.TheVariants.{Exchange}
 use Rattle.mb_deciding.specs.declared.access.Reg.TheVariants.{Last}
 use Rattle.mb_deciding.specs.declared.object.Kind.{Kind}
 use Rattle.mb_deciding.specs.declared.object.Kind.TheVariants.{LastObject}
-use Rattle.mb_deciding.specs.Vocabulary.{IsObjectLawful, ReadsLast, object_of, part, value_in}
-use Rattle.mb_deciding.proofs.Histories.{lawful_older, own_some, some_kept}
-use Rattle.mb_deciding.proofs.Lasts.{value_comes, value_stays}
+use Rattle.mb_deciding.specs.Vocabulary.{ReadsLast, object_of}
+use Rattle.mb_deciding.proofs.Histories.{value_from}
+use Rattle.mb_deciding.proofs.Lasts.{holds_inputs}
 use Rattle.mb_claim.specs.declared.access.Stage.TheVariants.{Going, Lost, Undecided, Won}
 use Rattle.mb_claim.specs.Vocabulary.{CanClaimFind, Claims, ClaimsAreSound, IsClaimIn, IsClaimLawful, IsClaimPrefix, IsClaimPrefixFrom, IsNextOp, IsStanding, IsUsedWith}
 use Rattle.mb_claim.specs.Vocabulary.{claim_stage, claims_in, claims_of, consumer_count, consumer_of, held_at, kinds_of, object_history, part_at, part_on, quorums_of, stage_for, standing, step_of}
@@ -20,26 +19,13 @@ use Rattle.mb_shared_claims.specs.Types.{Claim, ClaimAccess, ClaimOp, Layout, Ob
 use Rattle.mb_shared_claims.specs.SeatSteps.{access_of}
 
 -- ---- what the exchange finds
--- if the word of a last object holds u + 1, u is the input of a process with an access
-holds_input :
-    (t : QuorumTable) (inputs : ℕ → ℕ) (h : List Access) → IsObjectLawful (object_of t LastObject inputs) h → (u : ℕ)
-    → value_in Last h ≡ u + 1 → (b : ℕ) × (part b h ≢ []) × (inputs b ≡ u)
-holds_input t inputs [] lawful u e = absurd (omega (arith, e))
-holds_input t inputs (a ∷ h) lawful u e =
-    elim (cases_eq (value_in Last h) 0) [
-      | inl none ↦ (a.process, own_some a h, omega (arith, value_comes t inputs a h lawful none, e))
-      | inr some ↦
-          (let x = holds_input t inputs h (lawful_older (object_of t LastObject inputs) a h lawful) u
-          (sym (value_stays t inputs a h lawful some) ∙ e) in
-          (x.0, some_kept x.0 a h x.1, x.2))
-    ]
-
 -- if object 0 is a last object, its word does not hold the number of a consumer that has done nothing on the cell
 pub holds_other :
     (cs : Claims) (k c : ℕ) (inputs : ℕ → ℕ) (h : List ClaimAccess) → IsUsedWith cs k 0 LastObject inputs h
     → ((b : ℕ) → part_at b k 0 h ≢ [] → inputs b ≡ b) → part_on c k h ≡ [] → held_at k 0 Last h ≢ c + 1
 holds_other cs k c inputs h used own none holds =
-    let x = holds_input cs.table inputs (object_history k 0 h) used.lawful c holds in
+    let o = object_of cs.table LastObject inputs in
+    let x = value_from o Last (holds_inputs cs.table inputs) (object_history k 0 h) used.lawful c holds in
     let same : c ≡ x.0 = sym x.2 ∙ own x.0 x.1 in
     x.1 (subst (λ b. part_at b k 0 h ≡ []) same (part-object_history c k 0 h ∙ ap (turns_at 0) none))
 

@@ -78,7 +78,7 @@ module _ (laws : Laws) where
   second_fresh = none_yet 1 lost_steps (stage.Lost 0) laws.lost (λ e. cc)
 
   -- a claim of consumer 1 goes on after its first step, a load of 0 from the conciliator's word
-  second_goes : IsClaimPrefix two_cells 1 (first_step ∷ []) stage.Going
+  pub second_goes : IsClaimPrefix two_cells 1 (first_step ∷ []) stage.Going
   second_goes =
       inl (record {
         turns = first_step.turn ∷ [];

@@ -50,13 +50,27 @@ diaries_by_lane = two_lanes
 abbrev pub left_omitted : ReportView
 left_omitted = report_of (10 ∷ []) [] (diary_of 0 [] false ∷ [])
 
--- two consumers have taken one item
+-- two consumers have taken the first of two equal items
 abbrev pub two_takers : ReportView
-two_takers = report_of (5 ∷ []) [] (diary_of 0 (Took 5 ∷ []) false ∷ diary_of 1 (Took 5 ∷ []) false ∷ [])
+two_takers = report_of (5 ∷ 5 ∷ []) []
+    (diary_of 0 (Took 5 ∷ Undecided ∷ []) false ∷ diary_of 1 (Took 5 ∷ Undecided ∷ []) false ∷ [])
 
 -- another value was taken than was put
 abbrev pub other_value : ReportView
 other_value = report_of (5 ∷ []) [] (diary_of 0 (Took 6 ∷ []) false ∷ [])
+
+-- a consumer has lost to itself
+abbrev pub lost_to_itself : ReportView
+lost_to_itself = report_of (5 ∷ []) (5 ∷ []) (diary_of 0 (Lost 0 ∷ []) false ∷ [])
+
+-- a consumer has lost to one that did not compete
+abbrev pub winner_stayed_away : ReportView
+winner_stayed_away = report_of (5 ∷ []) (5 ∷ []) (diary_of 0 (Lost 1 ∷ []) false ∷ diary_of 1 [] false ∷ [])
+
+-- the item that was lost to consumer 2 was taken by consumer 0
+abbrev pub lost_to_a_third : ReportView
+lost_to_a_third = report_of (5 ∷ []) []
+    (diary_of 0 (Took 5 ∷ []) false ∷ diary_of 1 (Lost 2 ∷ []) false ∷ diary_of 2 [] true ∷ [])
 
 -- two consumers have lost one item to each other
 abbrev pub lost_to_each_other : ReportView

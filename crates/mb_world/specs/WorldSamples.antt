@@ -1,5 +1,5 @@
 -- A world of two lanes, two consumers and two cells, with one pair of objects over the unary table. Below are what was
--- done in it, its report, and a report and a diary that are not its own.
+-- done in it, its report, and a report and diaries that are not its own.
 use Rattle.std.specs.Prelude.{ℕ, true, false, List, [], ◌∷◌, ◌++◌, map}
 use Rattle.mb_cells.specs.LanePath.{fetch, store}
 use Rattle.mb_claim.specs.Samples.{won_and_lost}
@@ -106,10 +106,14 @@ report_with left d = record {
 abbrev pub all_reported : ReportView
 all_reported = report_with (6 ∷ []) (diary_with 1 0 (Lost 0 ∷ []))
 
--- ---- a report and a diary that are not of this world
+-- ---- a report and diaries that are not of this world
 -- an item that nobody took is left out of the items left
 abbrev pub item_missing : ReportView
 item_missing = report_with [] (diary_with 1 0 (Lost 0 ∷ []))
+
+-- consumer 1 has no note on the item that it has lost
+abbrev pub loss_unnoted : DiaryView
+loss_unnoted = diary_with 1 0 []
 
 -- consumer 1 says that it took the item that it has lost
 abbrev pub loss_taken : DiaryView

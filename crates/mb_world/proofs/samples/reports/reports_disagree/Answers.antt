@@ -1,9 +1,9 @@
 -- Proof of `samples::reports::reports_disagree`: reports with which no assignment agrees.
-use Rattle.std.proofs.Common.{◌≡◌, ℕ, zero, suc, ◌∷◌, [], List, Bool, Option, Some, None, false, true, refl, inl, inr, arith}
+use Rattle.std.proofs.Common.{◌≡◌, ◌⊎◌, ℕ, zero, suc, ◌∷◌, [], List, Bool, Option, Some, None, false, true, refl, sym, ◌∙◌, inl, inr, arith}
 use Rattle.std.specs.Prelude.{if◌then◌else◌}
 use Rattle.std.specs.Option.{is_none}
 use Rattle.mb_world.specs.Theorem.{HasCompeted, is_consumer}
-use Rattle.mb_world.specs.ReportSamples.{diary_of, left_omitted}
+use Rattle.mb_world.specs.ReportSamples.{diary_of, left_omitted, winner_stayed_away}
 use Rattle.mb_world.proofs.ReportLists.{no_diary, not_competing}
 use Rattle.mb_world.proofs.samples.reports.reports_disagree.Goals as goal
 
@@ -34,7 +34,7 @@ returns-clause-omitted c t agrees = by (t 0 0) refl (agrees.left 0)
     by (Some zero) e f = idle (agrees.given.competitors 0 0 0 e).1
     by (Some (suc d)) e f = nobody d (agrees.given.competitors (suc d) 0 0 e).1
 
--- the item would go to two consumers, as both took it
+-- the first item would go to two consumers, as both took it
 pub returns-clause-twice : goal.returns-clause-twice
 returns-clause-twice c t agrees =
     let e = (agrees.given.taken 0 0 0).0 (5, refl) in
@@ -57,9 +57,32 @@ no_value false e = cc
 pub returns-clause-value : goal.returns-clause-value
 returns-clause-value c t agrees = no_value (is_consumer 0 (t 0 0)) (agrees.given.ledgers 0 0)
 
+-- consumer 0 has lost the item to itself. But a loss must name another consumer
+pub returns-clause-itself : goal.returns-clause-itself
+returns-clause-itself c t agrees = (agrees.given.losses 0 0 0 0 refl).another refl
+
+-- in `winner_stayed_away` consumer 1 did not compete for the item
+away : HasCompeted 1 0 0 winner_stayed_away → ⊥
+away (inl h) = omega (arith, h)
+away (inr h) = let e = h.1 in cc
+
+-- consumer 1, to which the item was lost, did not compete for it. But the consumer that a loss names must have
+pub returns-clause-away : goal.returns-clause-away
+returns-clause-away c t agrees = away (agrees.given.losses 0 1 0 0 refl).competed
+
 -- two losses of one item name two consumers. But all losses of an item must name one consumer
 pub returns-clause-each : goal.returns-clause-each
 returns-clause-each c t agrees = let e = (agrees.given.losses 0 1 0 0 refl).only 1 0 refl in cc
+
+-- consumer 0 took the item, and the loss says that it goes to consumer 2 or to nobody
+pub returns-clause-third : goal.returns-clause-third
+returns-clause-third c t agrees =
+    by (t 0 0) ((agrees.given.taken 0 0 0).0 (5, refl)) (agrees.given.losses 1 2 0 0 refl).assigned
+  where
+    by : (a : Option ℕ) → a ≡ Some 0 → (a ≡ Some 2) ⊎ (a ≡ None) → ⊥
+    by None e f = cc
+    by (Some d) e (inl f) = let g : Some 0 ≡ Some 2 = sym e ∙ f in cc
+    by (Some d) e (inr f) = cc
 
 -- the begun claim is past the last item
 pub returns-clause-begun : goal.returns-clause-begun

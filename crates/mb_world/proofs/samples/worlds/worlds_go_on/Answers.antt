@@ -6,7 +6,7 @@ use Rattle.mb_world.specs.PathSamples.{two_cells}
 use Rattle.mb_world.specs.Plan.{size_of}
 use Rattle.mb_world.specs.World.{pool_accesses}
 use Rattle.mb_world.specs.WorldSamples.{two_by_two}
-use Rattle.mb_world.proofs.SampleWorlds.{Laws, all_done_lawful, begun_path, ended_path, first_path}
+use Rattle.mb_world.proofs.SampleWorlds.{Laws, all_done_lawful, begun_path, ended_path, first_path, second_goes}
 use Rattle.mb_world.proofs.samples.worlds.worlds_go_on.Goals as goal
 
 -- what the laws give for the small world. Each clause is a lemma of `SampleWorlds`, applied to this record
@@ -42,3 +42,6 @@ returns-clause-lost c = ended_path (laws c)
 
 pub returns-clause-begun : goal.returns-clause-begun
 returns-clause-begun c = begun_path (laws c)
+
+pub returns-clause-going : goal.returns-clause-going
+returns-clause-going c = second_goes (laws c)
