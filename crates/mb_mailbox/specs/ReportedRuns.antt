@@ -9,18 +9,12 @@ use Rattle.mb_mailbox.specs.declared.gate.Who.{Who}
 use Rattle.mb_mailbox.specs.declared.crew.Worked.{Worked}
 use Rattle.mb_world.specs.Plan.{Histories, Plan, size_of}
 use Rattle.mb_world.specs.Theorem.{ReportView}
-use Rattle.mb_world.specs.Setups.{plan_in}
-use Rattle.mb_world.specs.declared.setup.Setup.{Setup}
 
 -- the terms of a run: the plan of its mailbox, the most accesses of one poll, and each consumer's random words
 pub record Terms : Type 0 where
   pub plan : Plan
   pub budget : ℕ
   pub sources : List Stream
-
--- the terms of a run in a mailbox of this setup
-abbrev pub terms_of : Setup → ℕ → List Stream → Terms
-terms_of setup budget sources = record { plan = plan_in setup; budget = budget; sources = sources }
 
 -- the run of workers that led to a report. It was in a mailbox with the plan of `terms`, from a hub that had issued
 -- nothing to `hub`. It had a producer for each list and a consumer for each source, and came to these counts.
