@@ -13,7 +13,7 @@ mod orders;
 #[path = "../src/channel/wait.rs"]
 mod wait;
 
-use orders::{either, me, rest_until, search, step, step_when, Bodies};
+use orders::{Bodies, either, me, rest_until, search, step, step_when};
 use std::panic::resume_unwind;
 use std::sync::atomic::{AtomicBool, AtomicUsize, Ordering::SeqCst};
 use std::sync::{Arc, Mutex};

@@ -1,7 +1,7 @@
 //! Runs threads in each order of their steps, up to a number of preemptions. A step is what a thread does between two calls
 //! of [`step`]. One thread runs at a time. It is a preemption if a thread stops though it could go on.
 use std::cell::RefCell;
-use std::sync::mpsc::{channel, Sender};
+use std::sync::mpsc::{Sender, channel};
 use std::sync::{Arc, Mutex, MutexGuard};
 use std::thread::{self, Thread};
 
