@@ -139,11 +139,6 @@ pub fn rest_until(when: impl Fn() -> bool + Send + 'static) {
     next_step(Box::new(when), true);
 }
 
-/// The number of this thread.
-pub fn me() -> usize {
-    here().1
-}
-
 /// Returns false or true: the search tries both.
 pub fn either() -> bool {
     here().0.state.lock().unwrap().choose(2) == 1
