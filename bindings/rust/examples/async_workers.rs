@@ -1,6 +1,6 @@
 //! Tasks ask questions, and other tasks answer them, on two threads and without any other crate. The executor's queue of
 //! tasks that can go on is a channel, too. If you have an executor, take what stands below `run`.
-use hazbultra::channel::{bounded, unbounded, Receiver, Sender};
+use hazbultra::channel::{Receiver, Sender, bounded, unbounded};
 use std::sync::{Arc, Mutex};
 use std::task::{Context, Wake};
 use std::{collections::BTreeMap, future::Future, ops::Range, pin::Pin, thread};

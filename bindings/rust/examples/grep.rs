@@ -5,7 +5,7 @@
 //!
 //! As `grep -rnF` does, it passes over links and pipes in a folder, and only names a binary file that has the text. The
 //! status is 0 if the text was found, 1 if it was not, and 2 after an error.
-use hazbultra::channel::{bounded, unbounded, Sender};
+use hazbultra::channel::{Sender, bounded, unbounded};
 use std::collections::BTreeMap;
 use std::io::{self, BufWriter, Write};
 use std::path::{Path, PathBuf};

@@ -6,13 +6,13 @@
 //! - `idle`: 64 receivers sleep, and take next to no processor time.
 //! - `memory`: values go by an idle sender and an idle receiver, with and without an audit. Memory does not grow.
 //! - `full`: a send that gets no memory returns its value, and all others are received. It needs a limit: `ulimit -v 200000`.
-use hazbultra::channel::{unbounded, Builder, Receiver, RecvError, RecvTimeoutError};
+use hazbultra::channel::{Builder, Receiver, RecvError, RecvTimeoutError, unbounded};
 use hazbultra::channel::{SendError, SendTimeoutError, Sender, TrySendError};
 use run::{poll, run};
 use std::cmp::max;
 use std::collections::BTreeMap;
 use std::future::Future;
-use std::panic::{catch_unwind, resume_unwind, AssertUnwindSafe};
+use std::panic::{AssertUnwindSafe, catch_unwind, resume_unwind};
 use std::sync::atomic::{AtomicU64, Ordering::Relaxed};
 use std::sync::{Arc, Mutex, MutexGuard};
 use std::task::{Poll, Wake};
@@ -291,7 +291,9 @@ fn ends(seconds: u64, share: u64) -> String {
     };
     thread::scope(|scope| (0..AT_A_TIME).for_each(|_| drop(scope.spawn(work))));
     let [rounds, count] = [rounds, count].map(AtomicU64::into_inner);
-    format!("{count} values in {rounds} channels: each came once, all in one order, and each audit agrees")
+    format!(
+        "{count} values in {rounds} channels: each came once, all in one order, and each audit agrees"
+    )
 }
 
 /// The number at this place, from 0 on, of a file of the kernel.

@@ -1,6 +1,6 @@
 //! The settings of a mailbox, and how it is built from them.
 use crate::errors::BuildError;
-use crate::ffi::{Setup, BITS, MIDDLE, UNARY};
+use crate::ffi::{BITS, MIDDLE, Setup, UNARY};
 use crate::mailbox::Mailbox;
 use crate::seeds;
 use std::fmt;

@@ -1,9 +1,9 @@
 //! Tests of the channel, which is not proved. Most have small segments, so that values go through many.
 mod run;
 
-use hazbultra::channel::{bounded, unbounded, Builder, Receiver, Sender};
+use hazbultra::channel::{Builder, Receiver, Sender, bounded, unbounded};
 use hazbultra::channel::{RecvError, RecvTimeoutError, SendError, TryRecvError, TrySendError};
-use run::{poll, run, Flag};
+use run::{Flag, poll, run};
 use std::collections::BTreeMap;
 use std::sync::atomic::{AtomicUsize, Ordering::SeqCst};
 use std::sync::{Arc, Barrier};
@@ -82,9 +82,10 @@ fn each_value_goes_to_one_of_many_ends() {
         all.extend(taken);
     }
     all.sort_unstable();
-    assert!(all
-        .into_iter()
-        .eq((0..20).flat_map(|s| (0..500).map(move |it| (s, it)))));
+    assert!(
+        all.into_iter()
+            .eq((0..20).flat_map(|s| (0..500).map(move |it| (s, it))))
+    );
 }
 
 /// A receiver that looks after a send finds a value, also if other threads send and receive meanwhile.

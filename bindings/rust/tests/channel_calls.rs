@@ -1,9 +1,9 @@
 //! Tests of the channel's calls for its end, for ends that do not count, and for tasks.
 mod run;
 
-use hazbultra::channel::{bounded, unbounded, Builder, Receiver, Sender};
+use hazbultra::channel::{Builder, Receiver, Sender, bounded, unbounded};
 use hazbultra::channel::{RecvError, RecvTimeoutError, SendError, TryRecvError, TrySendError};
-use run::{poll, run, Flag};
+use run::{Flag, poll, run};
 use std::future::Future;
 use std::iter::FusedIterator;
 use std::sync::Arc;

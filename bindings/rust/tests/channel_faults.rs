@@ -1,15 +1,15 @@
 //! Tests of faults that the channel once had. Each failed then.
 mod run;
 
-use hazbultra::channel::{bounded, unbounded, Builder, Sender};
-use run::{poll, Flag};
+use hazbultra::channel::{Builder, Sender, bounded, unbounded};
+use run::{Flag, poll};
 use std::future::Future;
 use std::mem::ManuallyDrop;
-use std::panic::{catch_unwind, resume_unwind, AssertUnwindSafe};
+use std::panic::{AssertUnwindSafe, catch_unwind, resume_unwind};
 use std::pin::Pin;
 use std::process::Command;
 use std::sync::atomic::{AtomicUsize, Ordering::SeqCst};
-use std::sync::{mpsc, Arc, Barrier};
+use std::sync::{Arc, Barrier, mpsc};
 use std::task::{Context, Poll, RawWaker, RawWakerVTable, Wake, Waker};
 use std::thread;
 use std::time::{Duration, Instant};

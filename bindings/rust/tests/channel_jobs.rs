@@ -1,6 +1,6 @@
 //! Tests of the channel's jobs and of its audit. Most have small segments, so that values go through many.
 use hazbultra::channel::{
-    bounded, Builder, Receiver, RecvError, Sender, TryRecvError, TrySendError,
+    Builder, Receiver, RecvError, Sender, TryRecvError, TrySendError, bounded,
 };
 use std::collections::BTreeMap;
 use std::thread;
@@ -95,10 +95,12 @@ fn an_account_of_each_segment_while_it_runs() {
         takers,
         [receiver.number(), other.number(), receiver.number()].map(Some)
     );
-    assert!(account
-        .fates
-        .iter()
-        .all(|it| it.sender == Some(sender.number())));
+    assert!(
+        account
+            .fates
+            .iter()
+            .all(|it| it.sender == Some(sender.number()))
+    );
     assert!(audit.accounts().is_empty(), "each is handed out once");
 
     drop((receiver, other));

@@ -1,12 +1,12 @@
 //! Tests of the channel of bound 0, in which each value goes from hand to hand.
 mod run;
 
-use hazbultra::channel::{bounded, Builder};
+use hazbultra::channel::{Builder, bounded};
 use hazbultra::channel::{RecvError, SendError, SendTimeoutError, TryRecvError, TrySendError};
-use run::{poll, Flag};
+use run::{Flag, poll};
 use std::collections::BTreeMap;
-use std::sync::atomic::{AtomicBool, Ordering::SeqCst};
 use std::sync::Arc;
+use std::sync::atomic::{AtomicBool, Ordering::SeqCst};
 use std::task::Poll;
 use std::thread;
 use std::time::{Duration, Instant};

@@ -1,7 +1,7 @@
 //! Tests that each value is dropped once, whatever becomes of it.
 use hazbultra::{Full, Mailbox, Poll, Shape};
-use std::sync::atomic::{AtomicUsize, Ordering};
 use std::sync::Arc;
+use std::sync::atomic::{AtomicUsize, Ordering};
 use std::thread;
 
 /// Counts how many values were dropped.
@@ -22,7 +22,7 @@ struct Value(Drops);
 
 impl Drop for Value {
     fn drop(&mut self) {
-        self.0 .0.fetch_add(1, Ordering::SeqCst);
+        self.0.0.fetch_add(1, Ordering::SeqCst);
     }
 }
 
@@ -159,10 +159,7 @@ fn a_drop_that_panics_keeps_no_other_from_its_drop() {
     struct Bad(Drops);
     impl Drop for Bad {
         fn drop(&mut self) {
-            assert!(
-                self.0 .0.fetch_add(1, Ordering::SeqCst) != 1,
-                "as it should"
-            );
+            assert!(self.0.0.fetch_add(1, Ordering::SeqCst) != 1, "as it should");
         }
     }
     let drops = Drops::default();

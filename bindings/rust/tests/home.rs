@@ -80,12 +80,14 @@ fn a_worker_that_panics_is_no_missing_part() {
     // The lane of the producer that panicked has ended. So these values come to an end.
     assert_eq!(good.collect::<Vec<_>>(), [2]);
     let [bad, good] = consumers;
-    assert!(thread::spawn(move || {
-        let _held = bad;
-        panic!("with a consumer, as it should")
-    })
-    .join()
-    .is_err());
+    assert!(
+        thread::spawn(move || {
+            let _held = bad;
+            panic!("with a consumer, as it should")
+        })
+        .join()
+        .is_err()
+    );
     drop(good);
     let report = mailbox.gather().unwrap();
     assert_eq!((report.lanes[0].put, report.lanes[0].ended), (2, true));

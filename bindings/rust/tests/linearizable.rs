@@ -9,7 +9,7 @@ use hazbultra::channel::{RecvTimeoutError, SendTimeoutError, TryRecvError, TrySe
 use histories::model::{Fault, Model};
 use histories::search::{is_of_a_queue, judge, told};
 use histories::{Answer, Call, Channel, Dice, Ends, Event, How, Plan, Threads};
-use run::{poll, Flag};
+use run::{Flag, poll};
 use std::sync::Arc;
 use std::task::Poll;
 use std::time::Duration;

@@ -1,5 +1,5 @@
 //! Tests of the order of values, and of the shares of receivers.
-use hazbultra::channel::{unbounded, Builder};
+use hazbultra::channel::{Builder, unbounded};
 use std::env;
 use std::sync::atomic::{AtomicU64, Ordering::SeqCst};
 use std::thread;
@@ -24,9 +24,11 @@ fn two_senders_of_one_thread_keep_the_order_of_their_sends() {
                     a.send((round, 'a')).unwrap();
                 }
                 let pair = [(round, 'b'), (round, 'a')];
-                assert!(receiver
-                    .try_iter()
-                    .eq(pair.into_iter().cycle().take(2 * pairs)));
+                assert!(
+                    receiver
+                        .try_iter()
+                        .eq(pair.into_iter().cycle().take(2 * pairs))
+                );
             }
         }
     }

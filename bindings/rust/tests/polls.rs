@@ -75,11 +75,13 @@ fn threads_that_contend_need_no_larger_budget_than_the_docs_say() {
         let consumers: Vec<_> = (0..count).map(|_| mailbox.consumer().unwrap()).collect();
         thread::scope(|scope| {
             for mut consumer in consumers {
-                scope.spawn(move || loop {
-                    match consumer.poll_within(0, most) {
-                        Poll::Took(_) | Poll::Lost(_) => (),
-                        Poll::Ended => break,
-                        other => panic!("{other:?}"),
+                scope.spawn(move || {
+                    loop {
+                        match consumer.poll_within(0, most) {
+                            Poll::Took(_) | Poll::Lost(_) => (),
+                            Poll::Ended => break,
+                            other => panic!("{other:?}"),
+                        }
                     }
                 });
             }

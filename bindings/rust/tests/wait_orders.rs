@@ -13,7 +13,8 @@ mod orders;
 #[path = "../src/channel/wait.rs"]
 mod wait;
 
-use orders::{either, me, rest_until, search, step, step_when, Bodies};
+use orders::{Bodies, either, rest_until, search, step, step_when};
+use std::cell::Cell;
 use std::panic::resume_unwind;
 use std::sync::atomic::{AtomicBool, AtomicUsize, Ordering::SeqCst};
 use std::sync::{Arc, Mutex};
@@ -65,41 +66,42 @@ impl<T> Lock<T> for Locked<T> {
     }
 }
 
-/// For each thread: whether `unpark` has left it a token, and whether its time to wait is over.
-static TOKENS: [AtomicBool; 8] = [const { AtomicBool::new(false) }; 8];
-static IS_PAST: [AtomicBool; 8] = [const { AtomicBool::new(false) }; 8];
+thread_local! {
+    /// Whether `unpark` has left this thread a token.
+    static TOKEN: Arc<AtomicBool> = Arc::default();
+    /// Whether its time to wait is over.
+    static IS_PAST: Cell<bool> = const { Cell::new(false) };
+}
 
 impl System for Model {
     type Word = Stepped;
     type Lock<T> = Locked<T>;
-    type Thread = usize;
+    type Thread = Arc<AtomicBool>;
 
     const LOOKS: u32 = 1;
 
     fn pause(_: u32) {}
 
-    fn current() -> usize {
-        me()
+    fn current() -> Arc<AtomicBool> {
+        TOKEN.with(Arc::clone)
     }
 
-    fn unpark(thread: &usize) {
+    fn unpark(token: &Arc<AtomicBool>) {
         step();
-        TOKENS[*thread].store(true, SeqCst);
+        token.store(true, SeqCst);
     }
 
     /// Waits for a token. A thread with a time limit may go on without one. Then its time is over.
     fn park(until: Option<Instant>) {
-        let me = me();
-        let has_time = until.is_some();
-        rest_until(move || has_time || TOKENS[me].load(SeqCst));
-        if !TOKENS[me].swap(false, SeqCst) {
-            IS_PAST[me].store(true, SeqCst);
+        let (token, has_time) = (Self::current(), until.is_some());
+        rest_until(move || has_time || token.load(SeqCst));
+        if !Self::current().swap(false, SeqCst) {
+            IS_PAST.set(true);
         }
     }
 
     fn is_past(until: Option<Instant>) -> bool {
-        let past = &IS_PAST[me()];
-        until.is_some() && (past.load(SeqCst) || (either() && !past.swap(true, SeqCst)))
+        until.is_some() && (IS_PAST.get() || (either() && !IS_PAST.replace(true)))
     }
 }
 
@@ -161,6 +163,8 @@ impl Wake for Bell {
 }
 
 fn receive(channel: &Channel, kind: Kind) {
+    Model::current().store(false, SeqCst);
+    IS_PAST.set(false);
     match kind {
         Kind::Thread => channel.list.wait(None, || channel.look()).unwrap(),
         Kind::Timed => drop(channel.list.wait(Some(Instant::now()), || channel.look())),
@@ -195,7 +199,7 @@ fn receive_as_task(channel: &Channel, kind: Kind) {
 }
 
 #[test]
-fn no_wake_up_is_lost() {
+fn one_or_two_receivers_lose_no_wake_up() {
     use Kind::{Dropped, Panicking, Task, Thread, Timed};
     search_case(3, 0, &[Thread, Task]);
     search_case(100, 1, &[Thread]);
@@ -206,6 +210,11 @@ fn no_wake_up_is_lost() {
     search_case(2, 2, &[Thread, Dropped]);
     search_case(2, 2, &[Task, Task]);
     search_case(2, 1, &[Panicking, Thread]);
+}
+
+#[test]
+fn three_receivers_lose_no_wake_up() {
+    use Kind::{Dropped, Task, Thread, Timed};
     search_case(1, 2, &[Thread, Thread, Timed]);
     search_case(1, 2, &[Thread, Task, Dropped]);
 }
@@ -213,10 +222,6 @@ fn no_wake_up_is_lost() {
 /// Searches all orders of these threads. When no other can go on, and no value is left, the last thread closes the channel.
 fn search_case(preemptions: usize, senders: usize, kinds: &'static [Kind]) {
     let found = search(preemptions, || {
-        TOKENS
-            .iter()
-            .chain(&IS_PAST)
-            .for_each(|it| it.store(false, SeqCst));
         let channel = Arc::new(Channel {
             values: AtomicUsize::new(0),
             is_closed: AtomicBool::new(false),

@@ -1,6 +1,6 @@
 //! Who sent what, who took it, and what is left.
 use super::errors::written;
-use super::system::{lock, Panics};
+use super::system::{Panics, lock};
 use crate::ffi::Word;
 use crate::{Mailbox, Note, Report};
 use std::collections::{BTreeMap, VecDeque};

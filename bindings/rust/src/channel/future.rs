@@ -1,5 +1,5 @@
 //! The futures of a sender and of a receiver.
-use super::errors::{written, RecvError, SendError};
+use super::errors::{RecvError, SendError, written};
 use super::job::Job;
 use super::parcel::Parcel;
 use super::receiver::Receiver;

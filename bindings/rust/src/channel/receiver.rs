@@ -1,6 +1,6 @@
 //! A receiver.
 use super::ends::ends;
-use super::errors::{written, RecvError, RecvTimeoutError, TryRecvError};
+use super::errors::{RecvError, RecvTimeoutError, TryRecvError, written};
 use super::future::{JobFuture, RecvFuture};
 use super::iter::{Drain, Iter, TryIter};
 use super::job::Job;

@@ -1,6 +1,6 @@
 //! A sender.
 use super::ends::ends;
-use super::errors::{written, SendError, SendTimeoutError, TrySendError};
+use super::errors::{SendError, SendTimeoutError, TrySendError, written};
 use super::future::SendFuture;
 use super::shared::Shared;
 use super::store::Refused;

@@ -1,8 +1,8 @@
 //! The wait list's system in the crate: the standard library.
-use super::wait::{drop_said, Lock, System, WaitList, Word};
+use super::wait::{Lock, System, WaitList, Word, drop_said};
 use std::any::Any;
 use std::hint;
-use std::panic::{catch_unwind, resume_unwind, AssertUnwindSafe};
+use std::panic::{AssertUnwindSafe, catch_unwind, resume_unwind};
 use std::sync::atomic::{AtomicUsize, Ordering::SeqCst};
 use std::sync::{Mutex, MutexGuard, PoisonError, TryLockError};
 use std::thread::{self, Thread};

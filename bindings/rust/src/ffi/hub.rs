@@ -1,6 +1,6 @@
 //! A hub of the archive, with its mailbox.
 use super::calls::{self, excluded, expect_done, hz_consumer_new, hz_gather, hz_mailbox_new};
-use super::calls::{hz_poll, hz_producer_new, hz_take, hz_take_back, number, Missing, Setup};
+use super::calls::{Missing, Setup, hz_poll, hz_producer_new, hz_take, hz_take_back, number};
 use super::handle::Handle;
 use super::parts::{Call, Consumer, Producer};
 use super::report::{read_diaries, read_lanes};

@@ -43,7 +43,7 @@ mod report;
 mod slots;
 mod word;
 
-pub(crate) use calls::{number, Setup, BITS, MIDDLE, UNARY};
+pub(crate) use calls::{BITS, MIDDLE, Setup, UNARY, number};
 pub(crate) use hub::{Hub, NotIssued, Refusal};
 pub(crate) use parts::{Consumer, Producer};
 pub(crate) use slots::{Emptier, Filler, Slots};

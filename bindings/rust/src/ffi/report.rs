@@ -1,6 +1,6 @@
 //! A report of the archive, read into one of Rust.
 use super::calls::{self, excluded, expect_done, hz_report_diary, hz_report_items};
-use super::calls::{hz_report_lane, hz_report_notes, hz_report_size, number, Diary, Lane};
+use super::calls::{Diary, Lane, hz_report_lane, hz_report_notes, hz_report_size, number};
 use super::handle::Handle;
 use super::word::Word;
 use crate::report::{self, LaneReport, Note};

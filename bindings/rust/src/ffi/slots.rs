@@ -5,7 +5,7 @@
 //! the emptier's that takes the number: `ownership` says that there is one at most. What is left is taken like the rest,
 //! by the last consumer.
 use super::calls::{self, hz_put, hz_take, number};
-use super::word::{fits, Word};
+use super::word::{Word, fits};
 use crate::{Consumer, Mailbox, Producer, Shape};
 use std::cell::UnsafeCell;
 use std::iter;

@@ -1,5 +1,5 @@
 //! How a value goes through the archive, whose items are words of 64 bits.
-use std::mem::{needs_drop, MaybeUninit};
+use std::mem::{MaybeUninit, needs_drop};
 
 /// An item of the archive, which is a `u64` in its calls. `MaybeUninit<u64>` has the ABI of `u64`, so the archive gets the
 /// same 64 bits. But no Rust code reads a word as a number unless it is one: bytes of it may be uninitialised, as the padding
@@ -77,7 +77,7 @@ impl Word {
 // These make no call of the archive. So Miri can run them.
 #[cfg(test)]
 mod tests {
-    use super::{fits, owns, Word};
+    use super::{Word, fits, owns};
     use std::fmt::Debug;
     use std::rc::Rc;
 

@@ -1,7 +1,7 @@
 //! Runs threads in each order of their steps, up to a number of preemptions. A step is what a thread does between two calls
 //! of [`step`]. One thread runs at a time. It is a preemption if a thread stops though it could go on.
 use std::cell::RefCell;
-use std::sync::mpsc::{channel, Sender};
+use std::sync::mpsc::{Sender, channel};
 use std::sync::{Arc, Mutex, MutexGuard};
 use std::thread::{self, Thread};
 
@@ -137,11 +137,6 @@ pub fn step_when(when: impl Fn() -> bool + Send + 'static) {
 /// Does what [`step_when`] does. But if another thread gets the turn here, that is no preemption.
 pub fn rest_until(when: impl Fn() -> bool + Send + 'static) {
     next_step(Box::new(when), true);
-}
-
-/// The number of this thread.
-pub fn me() -> usize {
-    here().1
 }
 
 /// Returns false or true: the search tries both.

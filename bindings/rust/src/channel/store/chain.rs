@@ -5,9 +5,9 @@
 //! that was put before has a taker then. If a segment is over and has none after it, that moment is the load of the next one. If
 //! no more values were put than taken, it is the load of how many were put, since the other number was loaded before.
 use super::segment::{Place, Segment, Writer};
-use super::{Look, Plan, Refused, State, Status, SEATS};
+use super::{Look, Plan, Refused, SEATS, State, Status};
 use crate::channel::audit::GIVEN_BACK;
-use crate::channel::system::{lock, lock_soon, try_lock, Line};
+use crate::channel::system::{Line, lock, lock_soon, try_lock};
 use std::mem;
 use std::sync::atomic::AtomicU64;
 use std::sync::atomic::Ordering::{Relaxed, SeqCst};

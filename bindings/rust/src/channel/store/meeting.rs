@@ -5,8 +5,8 @@
 //! for it. A future may be dropped all the same: then the next receiver gets what was left for it. It also gets what a job
 //! gives back.
 use super::{Look, Refused, State, Status};
-use crate::channel::audit::{Ledger, GIVEN_BACK};
-use crate::channel::system::{lock, Panics, Waiters};
+use crate::channel::audit::{GIVEN_BACK, Ledger};
+use crate::channel::system::{Panics, Waiters, lock};
 use std::collections::{BTreeMap, VecDeque};
 use std::mem;
 use std::sync::{Arc, Mutex};

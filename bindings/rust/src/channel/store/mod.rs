@@ -7,10 +7,10 @@ mod segment;
 pub(super) use chain::Seat;
 pub(super) use meeting::{Meeting, Ticket};
 
-use super::audit::{Ledger, GIVEN_BACK};
+use super::audit::{GIVEN_BACK, Ledger};
 use chain::Chain;
-use std::sync::atomic::{AtomicU8, Ordering::SeqCst};
 use std::sync::Arc;
+use std::sync::atomic::{AtomicU8, Ordering::SeqCst};
 
 /// So many seats, each for one receiver. It is the most consumers that a mailbox may have.
 const SEATS: usize = 64;

@@ -4,7 +4,7 @@
 //! The main theorem says that no two consumers take the same item. So one alone comes for a value.
 use super::{Look, SEATS};
 use crate::channel::audit::{Ledger, Logs};
-use crate::channel::system::{lock, Panics};
+use crate::channel::system::{Panics, lock};
 use crate::ffi::{Emptier, Filler, Slots};
 use std::mem::{self, needs_drop};
 use std::sync::atomic::{AtomicBool, Ordering::SeqCst};
