@@ -18,7 +18,7 @@ use hazbultra::channel::{Receiver, RecvFuture};
 use std::fmt;
 use std::future::Future;
 use std::pin::Pin;
-use std::task::{ready, Context, Poll};
+use std::task::{Context, Poll, ready};
 
 /// The values that a receiver receives, until nothing comes any more. It has the receiver, or borrows it.
 #[must_use = "it receives nothing until it is polled"]

@@ -5,7 +5,7 @@ mod run;
 use futures_core::{FusedStream, Stream};
 use hazbultra::channel::{bounded, unbounded};
 use hazbultra_stream::RecvStream;
-use run::{run, Flag};
+use run::{Flag, run};
 use std::future::poll_fn;
 use std::pin::Pin;
 use std::sync::Arc;
