@@ -6,7 +6,7 @@ use hazbultra::channel;
 use std::env;
 use std::hint::black_box;
 use std::process::ExitCode;
-use std::sync::{mpsc, Arc, Mutex, PoisonError};
+use std::sync::{Arc, Mutex, PoisonError, mpsc};
 use std::thread;
 use std::time::Instant;
 
@@ -198,7 +198,9 @@ fn run(words: &[String]) -> Option<(u64, Vec<u64>)> {
 fn main() -> ExitCode {
     let words: Vec<String> = env::args().skip(1).collect();
     let Some((took, mut ways)) = run(&words) else {
-        eprintln!("usage: beside_channels hazbultra|crossbeam|flume|async|std u64|box threads|relay|turns PRODUCERS CONSUMERS VALUES");
+        eprintln!(
+            "usage: beside_channels hazbultra|crossbeam|flume|async|std u64|box threads|relay|turns PRODUCERS CONSUMERS VALUES"
+        );
         return ExitCode::FAILURE;
     };
     ways.sort_unstable();
