@@ -8,11 +8,11 @@ use Rattle.atomic_table.specs.Table.{Splits, Joins}
 use Rattle.atomic_table.proofs.Lists.{at_set, set_else, set_here, at_longer}
 use Rattle.mb_channel.specs.Types.{Home, Knows, Past}
 use Rattle.mb_channel.specs.Homes.{AllPast, Fits, IsSpent, Keeps, Made, PastFits, FitsEnd}
-use Rattle.mb_channel.specs.Homes.{both, count, is_in, made_by, newborn_view, past_of}
+use Rattle.mb_channel.specs.Homes.{both, count, how_many, is_in, made_by, newborn_view, past_of}
 use Rattle.mb_channel.specs.Homes.{receives, rights, sends, spent_view, splits_off, tallies, total}
 use Rattle.mb_channel.proofs.Members.{lock_views}
-use Rattle.mb_channel.proofs.Moves.{ended_stay, has_part, not_spent, told_same}
-use Rattle.mb_channel.proofs.Views.{in_none, past_append, past_count_append, past_map, size_set, size_snoc, snoc_cases, there, total_set, total_snoc}
+use Rattle.mb_channel.proofs.Moves.{ended_stay, has_part, not_back, not_spent, told_same}
+use Rattle.mb_channel.proofs.Views.{all_zero, how_many_append, in_none, once_more, past_append, past_count_append, past_map, size_set, size_snoc, snoc_cases, there, total_set, total_snoc}
 
 one_is : (a b : Bool) → a || b ≡ true → (a ≡ true) ⊎ (b ≡ true)
 one_is true b e = inl refl
@@ -127,6 +127,8 @@ module _ {T : Type 0} where
             (snoc_cases one new u j e);
         balance = λ g. (let a = total_set (count g) s.views id v w at in let b = total_snoc (count g) one new in
             let r = k.balance g in omega arith);
+        once = λ n. (let a = total_set (λ u. how_many n u.ended) s.views id v w at in
+            let b = total_snoc (λ u. how_many n u.ended) one new in let r = k.once n in omega arith);
         crowd = λ m h e. (let a = total_set (is_in m) s.views id v w at in let b = total_snoc (is_in m) one new in
             let r = k.crowd m h e in omega arith);
         fresh = λ n long. (let m = size_snoc one new in k.fresh n (omega arith));
@@ -233,6 +235,15 @@ module _ {T : Type 0} where
             let a = total_set (count m) s.views id v (both v w) at in let b = total_set
             (count m) one other w spent_view at2 in
             let e = past_count_append m v.ended (past_of w ∷ w.ended) in let r = k.balance m in omega arith
+            );
+        once = λ n. (
+            let a = total_set (λ u. how_many n u.ended) s.views id v (both v w) at in
+            let b = total_set (λ u. how_many n u.ended) one other w spent_view at2 in
+            let e = how_many_append n v.ended (past_of w ∷ w.ended) in
+            once_more (past_of w) n (total (λ u. how_many n u.ended) s.views) (total (λ u. how_many n u.ended) two)
+            (omega arith) (k.once n) (λ q. all_zero (λ u. how_many n u.ended) s.views
+            (λ j u at'. ap (λ i. how_many i u.ended) (sym q ∙ (g.named live').0)
+            ∙ not_back s k other w was part' j u at'))
             );
         crowd = λ m h e. (
             let a = total_set (is_in m) s.views id v (both v w) at in

@@ -103,7 +103,7 @@ module _ {T : Type 0} where
   pub unlocks_same : (slots id : ℕ) (me : Sat T) (y : Homes T) (hs : List (Home T)) → Stands hs y → me.1 ≡ (0, y) ∷ []
       → me.0.live ≡ true → me.0.holds ≡ true → MayLeave me.0 hs → MayGive (λ v. v) slots id me
   unlocks_same slots id me y hs stands carried live holds may = unlocks
-      (λ v. v) slots id me y hs stands carried live holds refl refl refl refl
+      (λ v. v) slots id me y hs stands carried live holds refl refl refl refl refl
       (λ s k at part before.
       let f = k.fits id me.0 at in
       let l : Longer k.homes hs = subst (λ x. Longer x hs) before (⊎_elim (λ e. inl e) (λ m. m.2) may) in

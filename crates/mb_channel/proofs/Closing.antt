@@ -36,7 +36,7 @@ module _ {T : Type 0} where
       let w = noticed a b c v in
       let f = k.fits id v at in
       let part = has_part k.homes k.all s.views id v f live in
-      moved s k id v w at part k.homes k.all mark (grows_same k.homes) k.agrees (λ n _. refl)
+      moved s k id v w at part refl k.homes k.all mark (grows_same k.homes) k.agrees (λ n _. refl)
       (λ g. omega arith) (λ m h e. busy_same s k m (is_in m v) h e)
       record {
         named = f.named;
@@ -171,7 +171,7 @@ module _ {T : Type 0} where
       → me.1 ≡ (0, y) ∷ [] → me.0.live ≡ true → me.0.holds ≡ true → hs ≡ me.0.before → length me.0.before ≡ n
       → (me.0.shut ≡ true) ⊎ (me.0.alone ≡ true) → MayGive (told_last n) slots id me
   unlocks_told n slots id me y hs stands carried live holds is size seen = unlocks
-      (told_last n) slots id me y hs stands carried live holds refl refl refl refl
+      (told_last n) slots id me y hs stands carried live holds refl refl refl refl refl
       (λ s k at part before.
       let v = me.0 in
       let f = k.fits id v at in

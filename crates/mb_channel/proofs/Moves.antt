@@ -10,8 +10,8 @@ use Rattle.atomic_table.specs.Table.{State, Act, keeps, takes, gives, step, step
 use Rattle.atomic_table.proofs.Lists.{exchanged, set_again, at_set, set_else}
 use Rattle.mb_channel.specs.Types.{Home, Homes, Knows, Past, arc_value}
 use Rattle.mb_channel.specs.Homes.{Agrees, AllPast, Fits, Grows, IsBusy, IsFree, IsHeld, IsIn, IsNear, IsNext, Keeps, Made, MayGive, PastFits, Sat, IsSpent, Stands, FitsEnd}
-use Rattle.mb_channel.specs.Homes.{count, is_in, locked, made_by, made_count, tallies, out_of, receives, rights, sends, takes_lock, total, unlocked}
-use Rattle.mb_channel.proofs.Views.{below_total, in_here, not_true, past_map, size_set, there, total_set}
+use Rattle.mb_channel.specs.Homes.{count, how_many, is_in, locked, made_by, made_count, tallies, out_of, receives, rights, sends, takes_lock, total, unlocked}
+use Rattle.mb_channel.proofs.Views.{below_total, in_here, none_many, not_true, past_map, size_set, there, total_set}
 
 module _ {T : Type 0} where
   abbrev pub Same : List (Made T) → List (Made T) → ℕ → Type 0
@@ -40,6 +40,12 @@ module _ {T : Type 0} where
       let z = spent.2 in
       omega arith
       )
+
+  -- nor was it given back to anybody
+  pub not_back : (s : State (Homes T) (Knows T)) (k : Keeps s) (id : ℕ) (v : Knows T) → get_elem? s.views id ≡ some v
+      → 0 < v.rights → (j : ℕ) (u : Knows T) → get_elem? s.views j ≡ some u → how_many id u.ended ≡ 0
+  not_back s k id v at part j u at' = none_many id u.ended (past_map (PastFits k.all s.views) (λ p. p.number ≢ id)
+      u.ended (λ p x. not_spent s.views id v at part p.number x.2) (k.fits j u at').ended)
 
   pub past_stays : (all new : List (Made T)) (views : List (Knows T)) (id : ℕ) (v w : Knows T)
       → get_elem? views id ≡ some v → 0 < v.rights
@@ -96,7 +102,7 @@ module _ {T : Type 0} where
 
   -- a step of one that counts for an end. `mine`: its new view fits
   pub moved : (s : State (Homes T) (Knows T)) (k : Keeps s) (id : ℕ) (v w : Knows T) → get_elem? s.views id ≡ some v
-      → 0 < v.rights
+      → 0 < v.rights → w.ended ≡ v.ended
       → (hs : List (Home T)) (new : List (Made T)) (mark : ℕ) → Grows k.homes hs → Agrees hs new → Same k.all new id
       → ((f : ℕ → ℕ) → count f w + made_count f k.all ≡ count f v + made_count f new)
       → ((m : ℕ) (h : Home T) → get_elem? hs m ≡ some h → out_of h + is_in m v ≡ total (is_in m) s.views + is_in m w)
@@ -105,7 +111,7 @@ module _ {T : Type 0} where
       → (IsFree record { words = words; homes = homes; views = slice_set s.views id w } hs mark
       ⊎ IsHeld record { words = words; homes = homes; views = slice_set s.views id w } hs mark)
       → Keeps record { words = words; homes = homes; views = slice_set s.views id w }
-  moved s k id v w at part hs new mark grows agrees same weight busy mine tells words homes lock = record {
+  moved s k id v w at part past hs new mark grows agrees same weight busy mine tells words homes lock = record {
     homes = hs;
     all = new;
     mark = mark;
@@ -113,6 +119,8 @@ module _ {T : Type 0} where
     agrees = agrees;
     balance = λ f. (let t = total_set (count f) s.views id v w at in let b = k.balance f in let d = weight f
         in omega arith);
+    once = λ n. (let t = total_set (λ u. how_many n u.ended) s.views id v w at in let o = k.once n in
+        let e : how_many n w.ended ≡ how_many n v.ended = ap (how_many n) past in omega arith);
     crowd = λ m h e. (let t = total_set (is_in m) s.views id v w at in let c = busy m h e in omega arith);
     fresh = λ m long. (
         let l = size_set s.views id w in
@@ -200,7 +208,7 @@ module _ {T : Type 0} where
         w,
         takes 0 l,
         ap (λ x. get_elem? x 0) free.2,
-        moved s k id v w at part k.homes k.all k.mark (grows_same k.homes) k.agrees (λ n _. refl)
+        moved s k id v w at part refl k.homes k.all k.mark (grows_same k.homes) k.agrees (λ n _. refl)
             (λ g. omega arith) (λ m h e. busy_same s k m (is_in m v) h e)
             record {
               named = f.named;
@@ -252,11 +260,12 @@ module _ {T : Type 0} where
   pub unlocks : (f : Knows T → Knows T) (slots id : ℕ) (me : Sat T) (y : Homes T) (hs : List (Home T)) → Stands hs y
       → me.1 ≡ (0, y) ∷ [] → me.0.live ≡ true → me.0.holds ≡ true
       → (f (unlocked me.0)).rights ≡ me.0.rights → (f (unlocked me.0)).sends ≡ me.0.sends
-      → (f (unlocked me.0)).receives ≡ me.0.receives → (f (unlocked me.0)).holds ≡ false
+      → (f (unlocked me.0)).receives ≡ me.0.receives → (f (unlocked me.0)).ended ≡ me.0.ended
+      → (f (unlocked me.0)).holds ≡ false
       → ((s : State (Homes T) (Knows T)) (k : Keeps s) → get_elem? s.views id ≡ some me.0 → 0 < me.0.rights
       → me.0.before ≡ k.homes → Lawful s k id me.0 hs (f (unlocked me.0)))
       → MayGive f slots id me
-  unlocks f slots id me y hs stands carried live holds ends senders receivers lets go s k len at small =
+  unlocks f slots id me y hs stands carried live holds ends senders receivers past lets go s k len at small =
       ⊎_elim
       (λ free. absurd (true≢false (sym holds ∙ free.4 id me.0 at)))
       (λ held.
@@ -269,7 +278,7 @@ module _ {T : Type 0} where
         w,
         gives,
         tt,
-        moved s k id me.0 w at part hs r.0 k.mark r.1 r.2 r.3 r.4 r.5 r.6 r.7
+        moved s k id me.0 w at part past hs r.0 k.mark r.1 r.2 r.3 r.4 r.5 r.6 r.7
             (slice_set s.words 0 0) (homes_after s.homes me.1 gives)
             (inl (
               y,

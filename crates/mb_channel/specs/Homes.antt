@@ -153,6 +153,11 @@ abbrev pub past_count : {T : Type 0} → (ℕ → ℕ) → List (Past T) → ℕ
 past_count f [] = 0
 past_count f (p ∷ ps) = times (f p.number) p.visits + past_count f ps
 
+-- how many of them have this number
+abbrev pub how_many : {T : Type 0} → ℕ → List (Past T) → ℕ
+how_many n [] = 0
+how_many n (p ∷ ps) = (if nat_eq p.number n then 1 else 0) + how_many n ps
+
 abbrev pub count : {T : Type 0} → (ℕ → ℕ) → Knows T → ℕ
 count f v = times (f v.number) v.visits + past_count f v.ended
 
@@ -216,6 +221,7 @@ pub record Keeps {T : Type 0} (s : State (Homes T) (Knows T)) : Type 0 where
   pub agrees : Agrees homes all
   pub crowd : (k : ℕ) (h : Home T) → get_elem? homes k ≡ some h → out_of h ≡ total (is_in k) s.views
   pub balance : (f : ℕ → ℕ) → total (count f) s.views ≡ made_count f all
+  pub once : (n : ℕ) → total (λ v. how_many n v.ended) s.views ≤ 1
   pub fresh : (n : ℕ) → length s.views ≤ n → made_by n all ≡ []
   pub fits : (id : ℕ) (v : Knows T) → get_elem? s.views id ≡ some v → Fits homes all s.views id v
   pub told : (id : ℕ) (v : Knows T) → get_elem? s.views id ≡ some v → FitsEnd homes mark s.views v
@@ -348,12 +354,13 @@ IsNone n [] = Unit {0}
 IsNone n (p ∷ ps) = (p.number ≢ n) × IsNone n ps
 
 -- once an end has taken back all others: what each did in which segment is what the hubs know, and nobody else did
--- anything. If it has left its own segment, no pass is out
+-- anything. No two of the ends have the same number. If the last one has left its own segment, no pass is out
 pub record IsWhole {T : Type 0} (v : Knows T) (hs : List (Home T)) : Type 0 where
   pub all : List (Made T)
   pub agrees : Agrees hs all
   pub own : (v.visits ≡ made_by v.number all) × Falls v.at v.visits
   pub others : AllPast (λ p. (p.visits ≡ made_by p.number all) × ((b : ℕ) × Falls b p.visits)) v.ended
+  pub once : (n : ℕ) → how_many n (past_of v ∷ v.ended) ≤ 1
   pub nobody : (n : ℕ) → v.number ≢ n → IsNone n v.ended → made_by n all ≡ []
   pub empty : v.inside ≡ false → AllHomes (λ h. out_of h ≡ 0) hs
 

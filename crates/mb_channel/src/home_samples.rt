@@ -1,7 +1,7 @@
 //! Samples of the list's definitions: what they admit, and what only looks right. The functions compute nothing: their
 //! contracts are the samples.
 ghost use Rattle.std.specs.Prelude.{List, ℕ, [], ◌∷◌, ◌≡◌};
-ghost use Rattle.mb_channel.specs.HomeSamples.{last_of_two, one_take, one_visit};
+ghost use Rattle.mb_channel.specs.HomeSamples.{given_twice, last_of_two, one_take, one_visit};
 ghost use Rattle.mb_channel.specs.Homes.{Agrees, IsDone, IsFreed, IsWhole, Stands, came_back, first_view, out_of};
 ghost use Rattle.mb_channel.specs.LifeSamples.{one_got, one_sent, two_sent};
 ghost use Rattle.mb_channel.specs.Types.{Home, Homes};
@@ -25,8 +25,8 @@ pub fn sample_agreement()
     ensures early { (h g : Home ℕ) → (IsDone h → ⊥) → Agrees (h ∷ g ∷ []) one_take → ⊥ }
 {}
 
-/// The end. Two ends in two segments are admitted. Refused: a pass that is out once the last end has left, and an
-/// account in a hub that no end's visits have.
+/// The end. Two ends in two segments are admitted. Refused: a pass that is out once the last end has left, an account
+/// in a hub that no end's visits have, and an end that was given back twice.
 pub fn sample_whole()
     ensures two { (h g : Home ℕ) → came_back h ≡ one_got ∷ two_sent ∷ []
         → came_back g ≡ one_sent ∷ [] → out_of h ≡ 0 → out_of g ≡ 0
@@ -34,4 +34,5 @@ pub fn sample_whole()
     ensures out { (h g : Home ℕ) → out_of h ≡ 1 → IsWhole last_of_two (h ∷ g ∷ []) → ⊥ }
     ensures stranger { (h : Home ℕ) → came_back h ≡ two_sent ∷ []
         → IsWhole first_view (h ∷ []) → ⊥ }
+    ensures twice { (hs : List (Home ℕ)) → IsWhole given_twice hs → ⊥ }
 {}
