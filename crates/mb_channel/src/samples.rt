@@ -4,7 +4,7 @@ ghost use Rattle.std.specs.Prelude.{ℕ, Some, [], ◌∷◌, ◌≡◌, true, f
 ghost use Rattle.mb_channel.specs.ChannelSamples.{forgotten, one_sender, one_taken, overtaken, overtaken_life, swapped_life};
 ghost use Rattle.mb_channel.specs.ChannelSamples.{taken_twice, two_and_two, two_segments, two_taken, unheeded, unheeded_life, unheeded_take};
 ghost use Rattle.mb_channel.specs.ChannelSamples.{ended, refused_beside_a_receiver, told_beside_a_sender, told_too_soon, value_behind};
-ghost use Rattle.mb_channel.specs.ChannelSamples.{looked_for, overslept, slept_past_the_end, slept_through_the_end, token_elsewhere};
+ghost use Rattle.mb_channel.specs.ChannelSamples.{last_drawn, last_forgotten, looked_for, overslept, slept_past_the_end, slept_through_the_end, token_elsewhere};
 ghost use Rattle.mb_channel.specs.ChannelSamples.{sleepers, two_forsaken, two_wait};
 ghost use Rattle.mb_channel.specs.ChannelTheorem.{EachBounded, EachMoment, WholeLife};
 ghost use Rattle.mb_channel.specs.ChannelSamples.{call, claim, entry, history, receiver, sender};
@@ -61,10 +61,14 @@ pub fn sample_bounds()
     ensures forsaken { EachBounded 2 0 (sleepers 1 0 0 0) false two_forsaken → ⊥ }
 {}
 
-/// What laws ask of segments. Admitted: what the moments and lives above keep. Refused: a sleeper beside a value, a
-/// segment visited past a value, "closed" told beside one, a value that overtook another, and a take that no end logs.
+/// What laws ask of segments. Admitted: what the moments and lives above keep, and a sleeper beside a value for which the
+/// sender of the last position owes tokens to all. Refused: that it owes one wake alone, that nobody owes any, a segment
+/// visited past a value, "closed" told beside one, a value that overtook another, and a take that no end logs.
 pub fn sample_segments()
     ensures kept { EachKeeps looked_for.segments × InTurn looked_for.segments × KeepsEnd ended }
+    ensures last { EachKeeps last_drawn.segments × InTurn last_drawn.segments
+        × EachMoment last_drawn }
+    ensures forgotten { EachKeeps last_forgotten.segments → ⊥ }
     ensures overslept { EachKeeps overslept.segments → ⊥ }
     ensures behind { InTurn value_behind.segments → ⊥ }
     ensures told { KeepsEnd told_too_soon → ⊥ }
