@@ -3,13 +3,13 @@ use Rattle.std.proofs.Common.{ℕ, Bool, true, false, true≢false, List, [], le
 use Rattle.std.proofs.Common.{◌≡◌, ◌+◌, ◌<◌, ◌≤◌, ◌⊎◌, ◌∷◌, ◌++◌, ◌∙◌}
 use Rattle.std.specs.Prelude.{IfSome, None, Option, Some, get_or, slice_set}
 use Rattle.mb_segment.specs.Seats.{view_in as pass_view}
-use Rattle.mb_segment.specs.Vocabulary.{IsFree as IsCalmPass, blank}
+use Rattle.mb_segment.specs.Vocabulary.{IsFree as IsCalmPass, blank, hub_view, or, took_back}
 use mathlib.Core.Option.{some, some-injective}
 use lib.ListN.{get_elem?}
 use Rattle.mb_channel.specs.Types.{Arc, Global, Home, Homes, Knows, Pass, Segment, View, arc_value}
 use Rattle.atomic_table.specs.Table.{State, rest}
 use Rattle.atomic_table.proofs.Lists.{at_longer}
-use Rattle.mb_channel.specs.Homes.{Agrees, At, Changes, Grows, HasIssued, HasTakenBack, IsBusy, IsIn, IsNew, IsNext}
+use Rattle.mb_channel.specs.Homes.{Agrees, At, Changes, Grows, HasIssued, HasTakenBack, IsBusy, IsDone, IsIn, IsNew, IsNext}
 use Rattle.mb_channel.specs.Homes.{IsPassOf, IsShut, Keeps, Longer, Made, MayGive, MayLeave, Sat, Stands, came_back, came_to, is_in, left_segment, out_of, sends, total, unlocked}
 use Rattle.mb_channel.proofs.Moves.{AllFitEnd, busy_same, ended_stay, grows_same, in_grows, near_grows, next_grows, still_told, unlocks}
 use Rattle.mb_channel.proofs.Stays.{unlocks_came, unlocks_left}
@@ -17,6 +17,10 @@ use Rattle.mb_channel.proofs.Views.{all_zero, below_total, in_else, in_none, mad
 
 some_is : {A : Type 0} (a b : A) → Some a ≡ Some b → a ≡ b
 some_is {A = A} a b e = ap (λ (o : Option A). Rattle.std.specs.Option.unwrap_or o a) e
+
+one_is : (a b : Bool) → (a ≡ true) ⊎ (b ≡ true) → or a b ≡ true
+one_is true b e = refl
+one_is false b e = ⊎_elim (λ q. absurd (true≢false (sym q))) (λ q. q) e
 
 module _ {T : Type 0} where
   -- the list that is lent is the one held, and nothing else is held
@@ -33,7 +37,7 @@ module _ {T : Type 0} where
       (hs ++ h ∷ []) all
   agrees_snoc hs h all new a = record {
     here = λ k u e. ⊎_elim (λ at. a.here k u at)
-        (λ (t : (k ≡ length hs) × (h ≡ u)). ap came_back (sym t.1) ∙ new.0 ∙ sym (a.none_behind k (let q = t.0
+        (λ (t : (k ≡ length hs) × (h ≡ u)). ap came_back (sym t.1) ∙ ap (λ (z : View T). z.ends) new ∙ sym (a.none_behind k (let q = t.0
         in omega arith))) (snoc_cases hs h u k e);
     none_behind = λ k long. (let l = size_snoc hs h in a.none_behind k (omega arith));
     turn = made_map (λ m. (m.visit.account.got ≡ []) ⊎ IsNext hs m.visit.segment) (λ m. (m.visit.account.got ≡ [])
@@ -65,7 +69,7 @@ module _ {T : Type 0} where
       (λ q. busy_same s k m p h (ap (λ x. get_elem? x m) (sym q) ∙ e))
       (λ q. ⊎_elim (λ at. busy_same s k m p h at)
       (λ (t : (m ≡ length k.homes) × (q.0 ≡ h)). (
-      let a : out_of h ≡ 0 = ap out_of (sym t.1) ∙ q.1.1 in
+      let a : out_of h ≡ 0 = ap out_of (sym t.1) ∙ ap (λ (z : View T). z.out) q.1 in
       let b = none_in s k m (let i = t.0 in omega arith) in omega arith
       ))
       (snoc_cases k.homes q.0 h m (ap (λ x. get_elem? x m) (sym q.2) ∙ e))) l
@@ -140,18 +144,24 @@ module _ {T : Type 0} where
     ),
   )
 
+  -- a hub that took back a pass: its segment is done if it was, or if the pass was told so
+  done_then : (x : View T) (h g : Home T) → hub_view g.hub ≡ took_back (hub_view h.hub) x
+      → IsDone h ⊎ (x.over ≡ true) → IsDone g
+  done_then x h g did is = ap (λ (z : View T). z.over) did ∙ one_is (hub_view h.hub).over x.over is
+
   pub leaves_list : (x : View T) (done : Bool) (slots id : ℕ) (me : Sat T) (y : Homes T) (hs : List (Home T))
       → Stands hs y → me.1 ≡ (0, y) ∷ [] → me.0.live ≡ true → me.0.holds ≡ true → me.0.inside ≡ true
       → Changes me.0.before hs me.0.at (λ h g. HasTakenBack h g x × (done ≡ g.done))
       → (me.0.takes ≡ false → x.account.got ≡ []) → MayGive (left_segment x.account done) slots id me
   leaves_list x done slots id me y hs stands carried live holds inside c poor = let did = c.4.0 in
       unlocks_left x.account done slots id me y hs stands carried live holds inside c.0 c.1 c.2 c.3
-      did.0 did.2 did.1 did.4 (λ q. sym c.1.tells ∙ sym c.4.1 ∙ q) poor
+      did.0 (λ d. done_then x c.0 c.1 did.1 (inl d)) (ap (λ (z : View T). z.ends) did.1) (ap (λ (z : View T). z.out) did.1)
+      (λ q. sym c.1.tells ∙ sym c.4.1 ∙ q) poor
 
   -- the segment is done if the pass saw that
   pub done_if : (x : View T) (done : Bool) (hs gs : List (Home T)) (k : ℕ)
       → Changes hs gs k (λ h g. HasTakenBack h g x × (done ≡ g.done)) → x.over ≡ true → done ≡ true
-  done_if x done hs gs k c o = c.4.1 ∙ c.1.tells ∙ c.4.0.3 o
+  done_if x done hs gs k c o = c.4.1 ∙ c.1.tells ∙ done_then x c.0 c.1 c.4.0.1 (inr o)
 
   pub comes_list : (b : Bool) (a : Arc (Segment T Global) Global) (p : Pass T) (slots id : ℕ) (me : Sat T) (y : Homes T)
       (hs : List (Home T)) → Stands hs y → me.1 ≡ (0, y) ∷ [] → me.0.live ≡ true → me.0.holds ≡ true
@@ -163,7 +173,7 @@ module _ {T : Type 0} where
   -- the pass that was issued is of the segment of which the end got a share
   pub came_where : (a : Arc (Segment T Global) Global) (p : Pass T) (h g : Home T) → HasIssued h g a p
       → p.seat.table_id ≡ (arc_value a).table.shared.table_id
-  came_where a p h g did = did.5 ∙ g.same ∙ ap (λ (s : Segment T Global). s.table.shared.table_id) (sym did.4)
+  came_where a p h g did = did.3 ∙ g.same ∙ ap (λ (s : Segment T Global). s.table.shared.table_id) (sym did.2)
 
   -- the segment whose hub issued a pass
   pub issued_of : (r : Option (Arc (Segment T Global) Global × Pass T)) (hs : List (Home T)) (k : ℕ) (h g : Home T)

@@ -7,7 +7,7 @@ use mathlib.Core.Option.{some, some-injective}
 use lib.ListN.{get_elem?}
 use Rattle.atomic_table.specs.Table.{State}
 use Rattle.atomic_table.proofs.Lists.{at_set, set_else, set_here}
-use Rattle.mb_channel.specs.Types.{Account, Arc, Global, Home, Homes, Knows, Pass, Segment, Visit}
+use Rattle.mb_channel.specs.Types.{Account, Arc, Global, Home, Homes, Knows, Pass, Segment, View, Visit}
 use Rattle.mb_channel.specs.Homes.{Agrees, At, Falls, Grows, HasIssued, IsDone, IsNear, IsNext, IsShare, Keeps, Made, MayGive, Sat, Stands}
 use Rattle.mb_channel.specs.Homes.{came_back, came_to, is_in, left_segment, made_by, made_in, out_of, total, unlocked, went_on}
 use Rattle.mb_channel.proofs.Moves.{ended_stay, grows_same, near_grows, next_grows, still_told, unlocks}
@@ -158,15 +158,17 @@ module _ {T : Type 0} where
       let f = k.fits id v at' in
       let here : get_elem? k.homes v.at ≡ some h = ap (λ l. get_elem? l v.at) (sym before) ∙ at in
       let now : hs ≡ slice_set k.homes v.at g = is ∙ ap (λ l. slice_set l v.at g) before in
-      let grows : Grows k.homes (slice_set k.homes v.at g) = grows_set k.homes v.at h g here did.0 did.2 in
+      let grows : Grows k.homes (slice_set k.homes v.at g) = grows_set k.homes v.at h g here did.0
+      (λ d. ap (λ (z : View T). z.over) did.1 ∙ d) in
       let w = came_to c b (unlocked v) in
-      let more = did.3 in
+      let more : out_of g ≡ out_of h + 1 = ap (λ (z : View T). z.out) did.1 in
       let crowd : out_of g + is_in v.at v ≡ out_of h + is_in v.at w = (
       let one = in_here w v.at refl refl in let none_ = in_none v v.at outside in omega arith
       ) in (
         k.all,
         subst (λ l. Grows k.homes l) (sym now) grows,
-        subst (λ l. Agrees l k.all) (sym now) (agrees_set k.homes k.all v.at h g here grows did.1 k.agrees),
+        subst (λ l. Agrees l k.all) (sym now) (agrees_set k.homes k.all v.at h g here grows
+            (ap (λ (z : View T). z.ends) did.1) k.agrees),
         (λ j _. refl),
         (λ w. omega arith),
         (λ j u e. crowd_set s k v w v.at h g here crowd (λ i ne. in_none v i outside ∙ sym (in_else w i (λ q. ne
@@ -176,7 +178,7 @@ module _ {T : Type 0} where
           falls = f.falls;
           near = subst (λ l. IsNear l v.at) (sym now) (near_grows k.homes (slice_set k.homes v.at g) grows v.at f.near);
           inside = λ _. subst (λ l. At l v.at (IsShare (Some c))) (sym now)
-              (g, set_here k.homes v.at g (there k.homes v.at h here), (c, refl, did.4));
+              (g, set_here k.homes v.at g (there k.homes v.at h here), (c, refl, did.2));
           takes = λ q. subst (λ l. IsNext l v.at) (sym now) (next_grows k.homes (slice_set k.homes v.at g) grows v.at
               (f.takes (next q)));
           newborn = λ q. absurd (true≢false (sym live ∙ q));

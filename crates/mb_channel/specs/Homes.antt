@@ -8,7 +8,7 @@ use lib.ListN.{get_elem?}
 use Rattle.atomic_table.specs.Table.{Allows, Me, State, Step, step}
 use Rattle.atomic_table.specs.declared.shared.Seat.{Seat}
 use Rattle.mb_channel.specs.Types.{Account, Arc, Global, Home, Homes, Knows, Pass, Past, Segment, View, Visit, arc_value}
-use Rattle.mb_segment.specs.Vocabulary.{IsWhole as SegmentIsWhole, hub_view}
+use Rattle.mb_segment.specs.Vocabulary.{IsWhole as SegmentIsWhole, hub_view, issued, new_hub, took_back}
 
 -- ---- the visits of all ends, the newest first
 pub record Made (T : Type 0) : Type 0 where
@@ -314,22 +314,21 @@ abbrev pub gets_number : {T : Type 0} → Step (Homes T) → Sat T → ℕ → S
 gets_number st m r n = (id : ℕ) × (n ≡ (record m.0 { live = true; number = id }, m.1))
 
 -- ---- what a hub did under the lock
--- it took back a pass with this view
+-- it took back a pass with this view, and knows that much more
 abbrev pub HasTakenBack : {T : Type 0} → Home T → Home T → View T → Type 0
-HasTakenBack h g v = (g.segment ≡ h.segment) × (came_back g ≡ v.account ∷ came_back h) × (IsDone h → IsDone g)
-    × (v.over ≡ true → IsDone g) × (out_of g ≡ out_of h - 1)
+HasTakenBack h g v = (g.segment ≡ h.segment) × (hub_view g.hub ≡ took_back (hub_view h.hub) v)
 
 -- it issued this pass, with a share of the segment, and knows no more than before
 abbrev pub HasIssued : {T : Type 0} → Home T → Home T → Arc (Segment T Global) Global → Pass T → Type 0
-HasIssued h g s p = (g.segment ≡ h.segment) × (came_back g ≡ came_back h) × (IsDone h → IsDone g)
-    × (out_of g ≡ out_of h + 1) × (arc_value s ≡ arc_value g.segment) × (p.seat.table_id ≡ g.hub.seat.table_id)
+HasIssued h g s p = (g.segment ≡ h.segment) × (hub_view g.hub ≡ issued (hub_view h.hub))
+    × (arc_value s ≡ arc_value g.segment) × (p.seat.table_id ≡ g.hub.seat.table_id)
 
 -- the home at k has changed so
 abbrev pub Changes : {T : Type 0} → List (Home T) → List (Home T) → ℕ → (Home T → Home T → Type 0) → Type 0
 Changes {T} hs gs k P = (h : Home T) × (g : Home T) × (get_elem? hs k ≡ some h) × (gs ≡ slice_set hs k g) × P h g
 
 abbrev pub IsNew : {T : Type 0} → Home T → Type 0
-IsNew h = (came_back h ≡ []) × (out_of h ≡ 0)
+IsNew h = hub_view h.hub ≡ new_hub
 
 -- the list, with a new segment more or not
 abbrev pub Longer : {T : Type 0} → List (Home T) → List (Home T) → Type 0

@@ -1,10 +1,11 @@
 //! Samples of the list's definitions: what they admit, and what only looks right. The functions compute nothing: their
 //! contracts are the samples.
-ghost use Rattle.std.specs.Prelude.{List, ℕ, [], ◌∷◌, ◌≡◌};
+ghost use Rattle.std.specs.Prelude.{List, ℕ, [], false, true, ◌∷◌, ◌≡◌};
 ghost use Rattle.mb_channel.specs.HomeSamples.{given_twice, last_of_two, one_take, one_visit};
-ghost use Rattle.mb_channel.specs.Homes.{Agrees, IsDone, IsFreed, IsWhole, Stands, came_back, first_view, out_of};
+ghost use Rattle.mb_channel.specs.Homes.{Agrees, HasIssued, HasTakenBack, IsDone, IsFreed, IsNew, IsWhole, Stands};
+ghost use Rattle.mb_channel.specs.Homes.{came_back, first_view, out_of};
 ghost use Rattle.mb_channel.specs.LifeSamples.{one_got, one_sent, two_sent};
-ghost use Rattle.mb_channel.specs.Types.{Home, Homes};
+ghost use Rattle.mb_channel.specs.Types.{Arc, Global, Home, Homes, Pass, Segment, View};
 
 /// All segments that there ever were. Admitted: one that was freed, before those in the list. Refused: one that was
 /// freed before it was done, and one that is neither freed nor in the list.
@@ -23,6 +24,17 @@ pub fn sample_agreement()
     ensures known { (h : Home ℕ) → came_back h ≡ two_sent ∷ [] → Agrees (h ∷ []) one_visit }
     ensures unknown { (h : Home ℕ) → came_back h ≡ [] → Agrees (h ∷ []) one_visit → ⊥ }
     ensures early { (h g : Home ℕ) → (IsDone h → ⊥) → Agrees (h ∷ g ∷ []) one_take → ⊥ }
+{}
+
+/// What a hub did. A segment is done once a pass came back that was told so. Refused: one that becomes done though the
+/// pass was not told so, or since a pass was issued, and one that is done from the beginning.
+pub fn sample_hubs()
+    ensures told { (h g : Home ℕ) (v : View ℕ) → v.over ≡ true → HasTakenBack h g v → IsDone g }
+    ensures untold { (h g : Home ℕ) (v : View ℕ) → (IsDone h → ⊥) → v.over ≡ false
+        → IsDone g → HasTakenBack h g v → ⊥ }
+    ensures issued { (h g : Home ℕ) (s : Arc (Segment ℕ Global) Global) (p : Pass ℕ)
+        → (IsDone h → ⊥) → IsDone g → HasIssued h g s p → ⊥ }
+    ensures new { (h : Home ℕ) → IsDone h → IsNew h → ⊥ }
 {}
 
 /// The end. Two ends in two segments are admitted. Refused: a pass that is out once the last end has left, an account
