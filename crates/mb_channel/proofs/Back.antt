@@ -260,7 +260,7 @@ module _ {T : Type 0} where
               inside = λ l. absurd (true≢false (sym l));
               takes = λ _ j lt. absurd (omega arith);
               newborn = λ _. (refl, refl, refl, λ p. absurd (omega arith));
-              idle = λ _. (refl, refl);
+              idle = λ _. refl;
               ended = tt;
             })
             (λ (t : (j ≢ other) × (get_elem? one j ≡ some u)). ⊎_elim

@@ -168,7 +168,7 @@ module _ {T : Type 0} where
   has_part hs all views id v f live = go v.rights refl
     where
       go : (n : ℕ) → v.rights ≡ n → 0 < n
-      go zero e = absurd (true≢false (sym live ∙ (f.idle e).0))
+      go zero e = absurd (true≢false (sym live ∙ ap (λ (z : Knows T). z.live) (f.idle e)))
       go (suc n) e = omega arith
 
   -- the ended of a view that fits, after its step

@@ -84,7 +84,11 @@ module _ {T : Type 0} where
       let t = two_below rights s.views j id u v ne at' at in
       let x = k.fits j u at' in
       let none_left : u.rights ≡ 0 = omega arith in
-      let b = x.newborn (x.idle none_left).0 in (b.0, b.1, b.2)
+      let e = x.idle none_left in (
+        ap (λ (z : Knows T). z.visits) e,
+        ap (λ (z : Knows T). z.ended) e,
+        ap (λ (z : Knows T). z.inside) e,
+      )
       ) in
       let none_else : (g : ℕ → ℕ) (j : ℕ) (u : Knows T) → j ≢ id → get_elem? s.views j ≡ some u → count g u ≡ 0 =
       λ g j u ne at'. (

@@ -194,7 +194,7 @@ pub record Fits {T : Type 0} (hs : List (Home T)) (all : List (Made T)) (views :
   pub takes : v.takes ≡ true → IsNext hs v.at
   pub newborn : v.live ≡ false → (v.visits ≡ []) × (v.ended ≡ []) × (v.inside ≡ false) × (0 < v.rights
       → made_by id all ≡ [])
-  pub idle : v.rights ≡ 0 → (v.live ≡ false) × (v.holds ≡ false)
+  pub idle : v.rights ≡ 0 → v ≡ spent_view
   pub ended : AllPast (PastFits all views) v.ended
 
 abbrev pub NobodyHolds : {T : Type 0} → List (Knows T) → Type 0

@@ -2,10 +2,10 @@
 //! contracts are the samples.
 ghost use Rattle.std.specs.Prelude.{List, ℕ, [], false, true, ◌∷◌, ◌≡◌};
 ghost use Rattle.mb_channel.specs.HomeSamples.{given_twice, last_of_two, one_take, one_visit};
-ghost use Rattle.mb_channel.specs.Homes.{Agrees, HasIssued, HasTakenBack, IsDone, IsFreed, IsNew, IsWhole, Stands};
-ghost use Rattle.mb_channel.specs.Homes.{came_back, first_view, out_of};
+ghost use Rattle.mb_channel.specs.Homes.{Agrees, Fits, HasIssued, HasTakenBack, IsDone, IsFreed, IsNew, IsWhole, Stands};
+ghost use Rattle.mb_channel.specs.Homes.{Made, came_back, first_view, out_of, spent_view};
 ghost use Rattle.mb_channel.specs.LifeSamples.{one_got, one_sent, two_sent};
-ghost use Rattle.mb_channel.specs.Types.{Arc, Global, Home, Homes, Pass, Segment, View};
+ghost use Rattle.mb_channel.specs.Types.{Arc, Global, Home, Homes, Knows, Pass, Segment, View};
 
 /// All segments that there ever were. Admitted: one that was freed, before those in the list. Refused: one that was
 /// freed before it was done, and one that is neither freed nor in the list.
@@ -35,6 +35,14 @@ pub fn sample_hubs()
     ensures issued { (h g : Home ℕ) (s : Arc (Segment ℕ Global) Global) (p : Pass ℕ)
         → (IsDone h → ⊥) → IsDone g → HasIssued h g s p → ⊥ }
     ensures new { (h : Home ℕ) → IsDone h → IsNew h → ⊥ }
+{}
+
+/// The view of an end that was given back. Admitted: one that counts for nothing. Refused: one that counts for a sender.
+pub fn sample_spent()
+    ensures spent { (hs : List (Home ℕ)) (all : List (Made ℕ)) (views : List (Knows ℕ)) (id : ℕ)
+        → Fits hs all views id spent_view }
+    ensures sender { (hs : List (Home ℕ)) (all : List (Made ℕ)) (views : List (Knows ℕ)) (id : ℕ)
+        → Fits hs all views id (record spent_view { sends = 1 }) → ⊥ }
 {}
 
 /// The end. Two ends in two segments are admitted. Refused: a pass that is out once the last end has left, an account
