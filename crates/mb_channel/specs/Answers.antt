@@ -24,8 +24,8 @@ OfAppended There same closed = same
 OfAppended Shut same closed = closed
 OfAppended Busy same closed = same
 
--- no sender is left, or one is, or nothing changed
-abbrev pub OfRetired : Retired → Type 0 → Type 0 → Type 0 → Type 0
-OfRetired Last last one same = last
-OfRetired One last one same = one
-OfRetired (Again n) last one same = same
+-- no sender is left, or one is, or nothing changed and there were so many
+abbrev pub OfRetired : Retired → Type 0 → Type 0 → (ℕ → Type 0) → Type 0
+OfRetired Last last one again = last
+OfRetired One last one again = one
+OfRetired (Again n) last one again = again n

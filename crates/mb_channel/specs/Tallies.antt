@@ -1,5 +1,5 @@
 -- The numbers of ends, senders and receivers, and the end of the list.
-use Rattle.std.specs.Prelude.{ℕ, Bool, Some, false, true, ◌+◌, ◌-◌, ◌≡◌, ◌≢◌, ◌⊎◌}
+use Rattle.std.specs.Prelude.{ℕ, Bool, Some, false, true, ◌+◌, ◌-◌, ◌≡◌, ◌≢◌, ◌≤◌, ◌⊎◌}
 use Rattle.atomic_table.specs.Table.{Step}
 use Rattle.mb_channel.specs.Types.{Homes, Knows}
 use Rattle.mb_channel.specs.Homes.{Sat}
@@ -17,9 +17,10 @@ retires_sender last v = record v { sends = v.sends - 1; alone = last }
 abbrev pub retires_receiver : {T : Type 0} → Knows T → Knows T
 retires_receiver v = record v { receives = v.receives - 1 }
 
--- an exchange of a number changes the view so
-abbrev pub counting : {T : Type 0} → (ℕ → Knows T → Knows T) → Step (Homes T) → Sat T → ℕ → Sat T → Type 0
-counting f st m r n = (n.1 ≡ m.1) × (r ≡ st.first → n.0 ≡ f r m.0) × (r ≢ st.first → n.0 ≡ m.0)
+-- an exchange of a number changes the view so. The number found is no less than what the end counts for
+abbrev pub counting : {T : Type 0} → (Knows T → ℕ) → (ℕ → Knows T → Knows T) → Step (Homes T) → Sat T → ℕ → Sat T
+    → Type 0
+counting of f st m r n = (n.1 ≡ m.1) × (r ≡ st.first → n.0 ≡ f r m.0) × (r ≢ st.first → n.0 ≡ m.0) × (of m.0 ≤ r)
 
 -- it saw that no sender is left, or that the list is closed
 abbrev pub saw_none : {T : Type 0} → Knows T → Knows T

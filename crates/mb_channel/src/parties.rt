@@ -1,5 +1,5 @@
 //! For how many senders and receivers the ends of the list count, and its closing.
-ghost use Rattle.std.specs.Prelude.{◌≡◌, ◌≢◌, ◌+◌, ◌<◌, ◌∷◌, [], true, false};
+ghost use Rattle.std.specs.Prelude.{◌≡◌, ◌≢◌, ◌+◌, ◌<◌, ◌≤◌, ◌∷◌, [], true, false};
 ghost use Rattle.mb_channel.specs.Answers.{OfRetired};
 ghost use Rattle.mb_channel.specs.Homes.{IsReady, view_in};
 ghost use Rattle.mb_channel.specs.Tallies.{hires_receiver, hires_sender, retires_receiver, retires_sender};
@@ -55,7 +55,8 @@ impl<T: Drop> List<T> {
         ensures answer { OfRetired result
             (view_in chair.new ≡ retires_sender true (view_in chair.old))
             (view_in chair.new ≡ retires_sender false (view_in chair.old))
-            (view_in chair.new ≡ view_in chair.old) }
+            (λ n. (view_in chair.new ≡ view_in chair.old) × (n ≢ seen)
+            × ((view_in chair.old).sends ≤ n)) }
     {
         let found = self
             .table
