@@ -37,8 +37,8 @@ module _ {T : Type 0} where
       (hs ++ h ∷ []) all
   agrees_snoc hs h all new a = record {
     here = λ k u e. ⊎_elim (λ at. a.here k u at)
-        (λ (t : (k ≡ length hs) × (h ≡ u)). ap came_back (sym t.1) ∙ ap (λ (z : View T). z.ends) new ∙ sym (a.none_behind k (let q = t.0
-        in omega arith))) (snoc_cases hs h u k e);
+        (λ (t : (k ≡ length hs) × (h ≡ u)). ap came_back (sym t.1) ∙ ap (λ (z : View T). z.ends) new
+        ∙ sym (a.none_behind k (let q = t.0 in omega arith))) (snoc_cases hs h u k e);
     none_behind = λ k long. (let l = size_snoc hs h in a.none_behind k (omega arith));
     turn = made_map (λ m. (m.visit.account.got ≡ []) ⊎ IsNext hs m.visit.segment) (λ m. (m.visit.account.got ≡ [])
         ⊎ IsNext (hs ++ h ∷ []) m.visit.segment) all
@@ -155,7 +155,8 @@ module _ {T : Type 0} where
       → (me.0.takes ≡ false → x.account.got ≡ []) → MayGive (left_segment x.account done) slots id me
   leaves_list x done slots id me y hs stands carried live holds inside c poor = let did = c.4.0 in
       unlocks_left x.account done slots id me y hs stands carried live holds inside c.0 c.1 c.2 c.3
-      did.0 (λ d. done_then x c.0 c.1 did.1 (inl d)) (ap (λ (z : View T). z.ends) did.1) (ap (λ (z : View T). z.out) did.1)
+      did.0 (λ d. done_then x c.0 c.1 did.1 (inl d)) (ap (λ (z : View T). z.ends) did.1)
+      (ap (λ (z : View T). z.out) did.1)
       (λ q. sym c.1.tells ∙ sym c.4.1 ∙ q) poor
 
   -- the segment is done if the pass saw that

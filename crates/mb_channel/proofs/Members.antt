@@ -134,7 +134,8 @@ module _ {T : Type 0} where
       let w = recounted a b c d v in
       let x = k.fits id v at in
       let part = has_part k.homes k.all s.views id v x live in
-      let low : of v ≤ slice_index s.words i = subst (λ n. of v ≤ n) (sym (word s k)) (below_total of s.views id v at) in
+      let low : of v ≤ slice_index s.words i = subst (λ n. of v ≤ n) (sym (word s k))
+      (below_total of s.views id v at) in
       exchanged (slice_index s.words i) seen new
       (λ m. (w : Knows T) × (a : Act (Homes T)) × Valid s.homes me.1 a × Keeps (stepped s i m id me.1 w a)
       × counting of f (step slots i seen new none) me (slice_index s.words i) (w, carried_after me.1 a))
@@ -213,8 +214,8 @@ module _ {T : Type 0} where
       → Allows Keeps slots id me 1 (λ n. either (n == seen) new n)
       (counting rights (λ _. counts_more) (step slots 1 seen new none) me)
   adds slots id seen new me live one = let v = me.0 in
-      recounts rights slots id 1 seen new (v.rights + 1) v.sends v.receives v.alone (λ _. counts_more) me rights_word live
-      (omega arith) refl (λ s k at is.
+      recounts rights slots id 1 seen new (v.rights + 1) v.sends v.receives v.alone (λ _. counts_more) me rights_word
+      live (omega arith) refl (λ s k at is.
       let w = counts_more v in
       let a = total_set rights s.views id v w at in
       let b = total_set sends s.views id v w at in
@@ -235,8 +236,8 @@ module _ {T : Type 0} where
       (counting sends (λ _. hires_sender) (step slots 2 seen new none) me)
   hires_one slots id seen new me live some_ one s k len at small = let v = me.0 in
       let part = has_part k.homes k.all s.views id v (k.fits id v at) live in
-      recounts sends slots id 2 seen new v.rights (v.sends + 1) v.receives v.alone (λ _. hires_sender) me senders_word live
-      part refl
+      recounts sends slots id 2 seen new v.rights (v.sends + 1) v.receives v.alone (λ _. hires_sender) me senders_word
+      live part refl
       (λ s k at is.
       let w = hires_sender v in
       let a = total_set rights s.views id v w at in

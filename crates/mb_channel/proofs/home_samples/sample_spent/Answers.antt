@@ -15,4 +15,5 @@ returns-clause-spent c hs all views id = record {
 }
 
 pub returns-clause-sender : goal.returns-clause-sender
-returns-clause-sender c hs all views id f = let e = ap (λ (z : Knows _). z.sends) (f.idle refl) in absurd (omega (arith, e))
+returns-clause-sender c hs all views id f =
+    let e = ap (λ (z : Knows _). z.sends) (f.idle refl) in absurd (omega (arith, e))
