@@ -31,12 +31,14 @@ fn size_at(at: usize) -> u32 {
 impl<T: Drop> Channel<T> {
     ghost use Rattle.std.specs.Prelude.{◌≡◌, ◌<◌, true, false, is_some};
     ghost use Rattle.mb_channel.specs.Ends.{IsEndOf, IsOver, IsSame, got_by, sent_by, view_of};
+    ghost use Rattle.mb_channel.specs.Receives.{IsLater};
 
     /// Adds a segment where the end is, if there is none yet.
     fn append(&self, end: &mut End<T>) -> Result<(), Refused>
         requires channel { IsEndOf self.now end.old }
         requires sender { 0 < (view_of end.old).sends }
         ensures end { IsSame end.old end.new }
+        ensures later { IsLater end.old end.new }
         ensures sent { sent_by end.new ≡ sent_by end.old }
         ensures got { got_by end.new ≡ got_by end.old }
         ensures takes { (view_of end.new).takes ≡ (view_of end.old).takes }
@@ -60,6 +62,7 @@ impl<T: Drop> Channel<T> {
         requires side { takes ≡ true → (view_of end.old).takes ≡ true }
         requires sender { takes ≡ false → 0 < (view_of end.old).sends }
         ensures end { IsSame end.old end.new }
+        ensures later { IsLater end.old end.new }
         ensures sent { sent_by end.new ≡ sent_by end.old }
         ensures got { got_by end.new ≡ got_by end.old }
         ensures takes { takes ≡ true → (view_of end.new).takes ≡ true }
@@ -93,6 +96,7 @@ impl<T: Drop> Channel<T> {
     pub(crate) fn leave(&self, end: &mut End<T>) -> bool
         requires channel { IsEndOf self.now end.old }
         ensures end { IsSame end.old end.new }
+        ensures later { IsLater end.old end.new }
         ensures sent { sent_by end.new ≡ sent_by end.old }
         ensures got { got_by end.new ≡ got_by end.old }
         ensures takes { (view_of end.old).takes ≡ true → IsOver end.old
@@ -133,6 +137,7 @@ impl<T: Drop> Channel<T> {
         requires sender { takes ≡ false → 0 < (view_of end.old).sends }
         requires over { takes ≡ true → IsOver end.old }
         ensures end { IsSame end.old end.new }
+        ensures later { IsLater end.old end.new }
         ensures sent { sent_by end.new ≡ sent_by end.old }
         ensures got { got_by end.new ≡ got_by end.old }
         ensures takes { takes ≡ true → (view_of end.new).takes ≡ true }

@@ -84,17 +84,18 @@ impl<T: Drop> End<T> {
     ghost use Rattle.std.specs.Prelude.{◌++◌, ◌∷◌, IfNone, IfSome};
     ghost use Rattle.mb_segment.specs.Waiting.{OfReceived};
     ghost use Rattle.mb_channel.specs.Ends.{IsOver, got_by, sent_by, view_of};
-    ghost use Rattle.mb_channel.specs.Receives.{OfTried, SawEmpty};
+    ghost use Rattle.mb_channel.specs.Receives.{IsLater, OfTried, SawEmpty};
 
     /// Receives a value in the segment where the end is, until a deadline. An end that is in none is told that none can
     /// come there.
     pub(crate) fn receive_by<R: Wait + Clock>(&mut self, rt: &R, deadline: Instant) -> Received<T>
         requires takes { (view_of self.old).takes ≡ true }
         ensures chair { self.new.chair ≡ self.old.chair }
+        ensures later { IsLater self.old self.new }
         ensures answer { OfReceived result
             (λ x. got_by self.new ≡ got_by self.old ++ x ∷ [])
             (IsOver self.new × (got_by self.new ≡ got_by self.old))
-            (SawEmpty self.new × (got_by self.new ≡ got_by self.old)) }
+            (SawEmpty self.old self.new × (got_by self.new ≡ got_by self.old)) }
         ensures sent { sent_by self.new ≡ sent_by self.old }
     {
         let Some(inside) = self.inside.take() else {
@@ -110,9 +111,10 @@ impl<T: Drop> End<T> {
     pub(crate) fn try_receive(&mut self) -> Option<Tried<T>>
         requires takes { (view_of self.old).takes ≡ true }
         ensures chair { self.new.chair ≡ self.old.chair }
+        ensures later { IsLater self.old self.new }
         ensures answer { IfSome result (λ t. OfTried t
             (λ x. got_by self.new ≡ got_by self.old ++ x ∷ [])
-            (SawEmpty self.new × (got_by self.new ≡ got_by self.old))
+            (SawEmpty self.old self.new × (got_by self.new ≡ got_by self.old))
             (got_by self.new ≡ got_by self.old)) }
         ensures none { IfNone result (IsOver self.new × (got_by self.new ≡ got_by self.old)) }
         ensures sent { sent_by self.new ≡ sent_by self.old }

@@ -48,7 +48,8 @@ impl<T: Drop> Channel<T> {
         ensures got { IfOk result (λ o. IfSome o (λ x. got_by receiver.new.end
             ≡ got_by receiver.old.end ++ x ∷ [])) }
         ensures late { IfOk result (λ o. IfNone o
-            ((SawEmpty receiver.new.end ⊎ (is_some receiver.new.end.inside ≡ false))
+            ((SawEmpty receiver.old.end receiver.new.end
+            ⊎ (is_some receiver.new.end.inside ≡ false))
             × (got_by receiver.new.end ≡ got_by receiver.old.end))) }
         ensures none { OnErr result (got_by receiver.new.end ≡ got_by receiver.old.end) }
         ensures sent { sent_by receiver.new.end ≡ sent_by receiver.old.end }
@@ -78,7 +79,7 @@ impl<T: Drop> Channel<T> {
         ensures end { IsSame receiver.old.end receiver.new.end }
         ensures answer { IfOk result (λ t. OfTried t
             (λ x. got_by receiver.new.end ≡ got_by receiver.old.end ++ x ∷ [])
-            (SawEmpty receiver.new.end
+            (SawEmpty receiver.old.end receiver.new.end
             × (got_by receiver.new.end ≡ got_by receiver.old.end))
             (got_by receiver.new.end ≡ got_by receiver.old.end)) }
         ensures none { OnErr result (got_by receiver.new.end ≡ got_by receiver.old.end) }

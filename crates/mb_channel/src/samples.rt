@@ -1,6 +1,7 @@
 //! Samples of the theorem's definitions: what they admit, and what only looks right. The functions compute nothing:
 //! their contracts are the samples.
-ghost use Rattle.std.specs.Prelude.{ℕ, Some, [], ◌∷◌, ◌≡◌, true, false};
+ghost use Rattle.std.specs.Prelude.{ℕ, Some, [], ◌+◌, ◌∷◌, ◌≡◌, true, false};
+ghost use Rattle.mb_segment.specs.Vocabulary.{SawAllTaken};
 ghost use Rattle.mb_channel.specs.ChannelSamples.{forgotten, one_sender, one_taken, overtaken, overtaken_life, swapped_life};
 ghost use Rattle.mb_channel.specs.ChannelSamples.{taken_twice, two_and_two, two_segments, two_taken, unheeded, unheeded_life, unheeded_take};
 ghost use Rattle.mb_channel.specs.ChannelSamples.{ended, refused_beside_a_receiver, told_beside_a_sender, told_too_soon, value_behind};
@@ -15,6 +16,9 @@ ghost use Rattle.mb_channel.specs.Types.{Home};
 ghost use Rattle.mb_channel.specs.Segments.{AreLogs, EachKeeps, InTurn, KeepsEnd, TakenInTurn};
 ghost use Rattle.mb_channel.specs.Stays.{AllBy, AllTo, AreApart, DidSo, Told, by_ends};
 ghost use Rattle.mb_channel.specs.Lives.{HaveEnded, end_in};
+ghost use Rattle.mb_channel.specs.Receives.{SawEmpty, SawNothing, found_in};
+ghost use Rattle.mb_channel.specs.declared.end.End.{End};
+ghost use Rattle.mb_channel.specs.declared.inside.Inside.{Inside};
 
 /// Points 1 to 3. A life over two segments is admitted. Refused: values of one sender that stand in another order, a
 /// value that stands before one that its sender knew of, a value that two received, a take before one that its receiver
@@ -113,4 +117,13 @@ pub fn sample_told()
     ensures shut { IsTold 2 (first_view {T = ℕ})
         (record first_view { shut = true; last = Some 2 }) }
     ensures neither { IsTold 2 (first_view {T = ℕ}) (record first_view { last = Some 2 }) → ⊥ }
+{}
+
+/// A receiver finds its segment empty. Admitted: it looked in the call, and all was claimed that it had sent or seen.
+/// Refused: it looked only before the call. So of an end.
+pub fn sample_empty()
+    ensures looked { (i j : Inside ℕ) → SawAllTaken j.pass.seat.me.0 → found_in j ≡ found_in i + 1
+        → SawNothing i j }
+    ensures before { (i : Inside ℕ) → SawNothing i i → ⊥ }
+    ensures end { (e : End ℕ) → SawEmpty e e → ⊥ }
 {}

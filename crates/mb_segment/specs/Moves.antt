@@ -116,7 +116,11 @@ did_cut v = record v { account = record v.account { cut = true }; sight = record
 
 -- it saw that all positions were claimed when n were drawn
 abbrev pub sees_empty : {T : Type 0} → ℕ → View T → View T
-sees_empty n v = record v { sight = record v.sight { empty = n } }
+sees_empty n v = record v { sight = record v.sight { empty = n; found = v.sight.found + 1 } }
+
+-- how often it saw that
+abbrev pub found_empty : {T : Type 0} → View T → ℕ
+found_empty v = v.sight.found
 
 -- each position of the list is below n
 abbrev pub Below : {T : Type 0} → ℕ → List (Spot T) → Type 0
