@@ -30,16 +30,18 @@ IsFresh e = (sent_by e ≡ []) × (got_by e ≡ []) × ((view_of e).ended ≡ []
 abbrev pub IsEndOf : {T : Type 0} → Channel T → End T → Type 0
 IsEndOf c e = e.chair.table_id ≡ c.list.table.shared.table_id
 
--- the same end, later: no other was given back to it meanwhile, and it counts for as many senders and receivers. If it
--- knew that the list is closed or that no sender is left, it still does
+-- if it knew that the list is closed, or that no sender is left, it still does
+abbrev pub StaysTold : {T : Type 0} → Knows T → Knows T → Type 0
+StaysTold v w = (v.shut ≡ true → w.shut ≡ true) × (v.alone ≡ true → w.alone ≡ true)
+
+-- the same end, later: no other was given back to it meanwhile, and it counts for as many senders and receivers
 pub record IsSame {T : Type 0} (old new : End T) : Type 0 where
   pub list : new.chair.table_id ≡ old.chair.table_id
   pub number : (view_of new).number ≡ (view_of old).number
   pub ended : (view_of new).ended ≡ (view_of old).ended
   pub sends : (view_of new).sends ≡ (view_of old).sends
   pub receives : (view_of new).receives ≡ (view_of old).receives
-  pub shut : (view_of old).shut ≡ true → (view_of new).shut ≡ true
-  pub alone : (view_of old).alone ≡ true → (view_of new).alone ≡ true
+  pub told : StaysTold (view_of old) (view_of new)
 
 -- the view of an end that left its segment: the end is the same, and it counts for as many
 pub record IsLeft {T : Type 0} (old new : Knows T) : Type 0 where

@@ -3,7 +3,7 @@ ghost use Rattle.std.specs.Prelude.{ℕ, ◌≡◌, ◌++◌, ◌∷◌, [], tru
 ghost use Rattle.mb_segment.specs.Vocabulary.{is_over};
 ghost use Rattle.mb_channel.specs.Inside.{account_in};
 ghost use Rattle.mb_channel.specs.Tallies.{saw_closed};
-ghost use Rattle.mb_channel.specs.Ends.{HasEnded, IsBehind, IsEndOf, IsSame, SawOver, given_to, got_by, log_of, sent_by, view_of};
+ghost use Rattle.mb_channel.specs.Ends.{HasEnded, IsBehind, IsEndOf, IsSame, SawOver, StaysTold, given_to, got_by, log_of, sent_by, view_of};
 
 use crate::channel::{Channel, Refused};
 use crate::end::{End, Receiver, Sender};
@@ -108,6 +108,7 @@ impl<T: Drop> Channel<T> {
         requires channel { IsEndOf self.now receiver.old.end }
         ensures channel { IsEndOf self.now receiver.new.end }
         ensures logs { log_of receiver.new.end ≡ log_of receiver.old.end }
+        ensures told { StaysTold (view_of receiver.old.end) (view_of receiver.new.end) }
         ensures closed { result ≡ true → (view_of receiver.new.end).shut ≡ true }
         ensures ended { result ≡ true → HasEnded receiver.new.end }
         ensures given { result ≡ true → (n : ℕ) × (given_to receiver.new.end

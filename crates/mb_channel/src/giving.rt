@@ -3,7 +3,7 @@ ghost use Rattle.std.specs.Prelude.{◌≡◌, ◌++◌, ◌∷◌, ◌+◌, ◌
 ghost use Rattle.mb_channel.specs.Homes.{IsReady, past_of, view_in};
 ghost use Rattle.mb_channel.specs.Inside.{log_of_past};
 ghost use Rattle.mb_channel.specs.Tallies.{retires_sender};
-ghost use Rattle.mb_channel.specs.Ends.{HasEnded, IsEndOf, IsLeft, given_to, got_by, log_of, sent_by, view_of};
+ghost use Rattle.mb_channel.specs.Ends.{HasEnded, IsEndOf, IsLeft, StaysTold, given_to, got_by, log_of, sent_by, view_of};
 
 use crate::answers::Retired;
 use crate::channel::Channel;
@@ -55,7 +55,7 @@ impl<T: Drop> Channel<T> {
         ensures list { end.new.chair.table_id ≡ end.old.chair.table_id }
         ensures sends { (view_of end.new).sends ≡ (view_of end.old).sends + (view_of other).sends }
         ensures alone { (view_of end.new).alone ≡ (view_of end.old).alone || (view_of other).alone }
-        ensures shut { (view_of end.old).shut ≡ true → (view_of end.new).shut ≡ true }
+        ensures told { StaysTold (view_of end.old) (view_of end.new) }
         ensures last { is_some (view_of other).last ≡ true → is_some (view_of end.new).last ≡ true }
         ensures number { (view_of end.new).number ≡ (view_of end.old).number }
         ensures takes { (view_of end.new).takes ≡ (view_of end.old).takes }
@@ -97,6 +97,7 @@ impl<T: Drop> Channel<T> {
         requires channel { IsEndOf self.now to.old.end × IsEndOf self.now sender.end }
         ensures channel { IsEndOf self.now to.new.end }
         ensures logs { log_of to.new.end ≡ log_of to.old.end }
+        ensures told { StaysTold (view_of to.old.end) (view_of to.new.end) }
         ensures given { given_to to.new.end
             ≡ given_to to.old.end ++ log_of sender.end ∷ given_to sender.end }
         ensures retired { (view_of to.new.end).sends ≡ (view_of to.old.end).sends }
@@ -118,6 +119,7 @@ impl<T: Drop> Channel<T> {
         requires channel { IsEndOf self.now to.old.end × IsEndOf self.now receiver.end }
         ensures channel { IsEndOf self.now to.new.end }
         ensures logs { log_of to.new.end ≡ log_of to.old.end }
+        ensures told { StaysTold (view_of to.old.end) (view_of to.new.end) }
         ensures given { given_to to.new.end
             ≡ given_to to.old.end ++ log_of receiver.end ∷ given_to receiver.end }
     {

@@ -2,7 +2,7 @@
 ghost use Rattle.std.specs.Prelude.{◌≡◌, ◌++◌, ◌∷◌, ◌+◌, ◌-◌, ◌<◌, ◌≤◌, false, true, IfOk, IfSome, None};
 ghost use Rattle.mb_channel.specs.Tallies.{hires_receiver, hires_sender};
 ghost use Rattle.mb_channel.specs.Homes.{IsFirst, IsReady, view_in};
-ghost use Rattle.mb_channel.specs.Ends.{IsEndOf, IsFresh, IsSame, given_to, got_by, log_of, sent_by, view_of};
+ghost use Rattle.mb_channel.specs.Ends.{IsEndOf, IsFresh, IsSame, StaysTold, given_to, got_by, log_of, sent_by, view_of};
 
 use crate::channel::Channel;
 use crate::end::{End, Receiver, Sender};
@@ -77,7 +77,8 @@ impl<T: Drop> Channel<T> {
         requires receives { S.receives ≤ (view_of end.old).receives }
         ensures old { IsEndOf self.now end.new × ((view_of end.new).takes ≡ (view_of end.old).takes)
             × ((view_of end.new).number ≡ (view_of end.old).number)
-            × ((view_of end.new).ended ≡ (view_of end.old).ended) }
+            × ((view_of end.new).ended ≡ (view_of end.old).ended)
+            × StaysTold (view_of end.old) (view_of end.new) }
         ensures sent { sent_by end.new ≡ sent_by end.old }
         ensures got { got_by end.new ≡ got_by end.old }
         ensures sends { ((view_of end.new).sends ≡ (view_of end.old).sends - S.sends)
@@ -166,6 +167,7 @@ impl<T: Drop> Channel<T> {
         requires channel { IsEndOf self.now sender.old.end }
         ensures channel { IsEndOf self.now sender.new.end }
         ensures logs { log_of sender.new.end ≡ log_of sender.old.end }
+        ensures told { StaysTold (view_of sender.old.end) (view_of sender.new.end) }
         ensures given { given_to sender.new.end ≡ given_to sender.old.end }
         ensures new { IfSome result (λ s. IsEndOf self.now s.end × IsFresh s.end) }
     {
@@ -188,6 +190,7 @@ impl<T: Drop> Channel<T> {
         requires channel { IsEndOf self.now receiver.old.end }
         ensures channel { IsEndOf self.now receiver.new.end }
         ensures logs { log_of receiver.new.end ≡ log_of receiver.old.end }
+        ensures told { StaysTold (view_of receiver.old.end) (view_of receiver.new.end) }
         ensures given { given_to receiver.new.end ≡ given_to receiver.old.end }
         ensures new { IfSome result (λ r. IsEndOf self.now r.end × IsFresh r.end) }
     {
