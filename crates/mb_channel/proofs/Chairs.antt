@@ -1,17 +1,17 @@
 -- What the calls on the list's lock stand on.
 use Rattle.std.proofs.Common.{ℕ, Bool, true, false, true≢false, List, [], length, sym, refl, ap, subst, inl, inr, ⊎_elim, arith}
-use Rattle.std.proofs.Common.{◌≡◌, ◌+◌, ◌<◌, ◌≤◌, ◌⊎◌, ◌∷◌, ◌++◌, ◌∙◌}
+use Rattle.std.proofs.Common.{◌≡◌, ◌+◌, ◌<◌, ◌≤◌, ◌⊎◌, ◌∷◌, ◌++◌, ◌||◌, ◌∙◌}
 use Rattle.std.specs.Prelude.{IfSome, None, Option, Some, get_or, slice_set}
 use Rattle.mb_segment.specs.Seats.{view_in as pass_view}
-use Rattle.mb_segment.specs.Vocabulary.{IsFree as IsCalmPass, blank, hub_view, or, took_back}
+use Rattle.mb_segment.specs.Vocabulary.{IsFree as IsCalmPass, blank, hub_view, is_over, or, took_back}
 use mathlib.Core.Option.{some, some-injective}
 use lib.ListN.{get_elem?}
 use Rattle.mb_channel.specs.Types.{Arc, Global, Home, Homes, Knows, Pass, Segment, View, arc_value}
 use Rattle.atomic_table.specs.Table.{State, rest}
 use Rattle.atomic_table.proofs.Lists.{at_longer}
-use Rattle.mb_channel.specs.Homes.{Agrees, At, Changes, Grows, HasIssued, HasTakenBack, IsBusy, IsDone, IsIn, IsNew, IsNext}
+use Rattle.mb_channel.specs.Homes.{Agrees, At, Changes, Grows, HasIssued, HasTakenBack, IsBusy, IsDone, IsIn, IsNew, IsNext, IsOver}
 use Rattle.mb_channel.specs.Homes.{IsPassOf, IsShut, Keeps, Longer, Made, MayGive, MayLeave, Sat, Stands, came_back, came_to, is_in, left_segment, out_of, sends, total, unlocked}
-use Rattle.mb_channel.proofs.Moves.{AllFitEnd, busy_same, ended_stay, grows_same, in_grows, near_grows, next_grows, still_told, unlocks}
+use Rattle.mb_channel.proofs.Moves.{AllFitEnd, busy_same, ended_stay, grows_same, in_grows, near_grows, next_grows, over_grows, still_told, unlocks}
 use Rattle.mb_channel.proofs.Stays.{unlocks_came, unlocks_left}
 use Rattle.mb_channel.proofs.Views.{all_zero, below_total, in_else, in_none, made_map, size_snoc, snoc_cases, there, total_set}
 
@@ -22,6 +22,15 @@ one_is : (a b : Bool) → (a ≡ true) ⊎ (b ≡ true) → or a b ≡ true
 one_is true b e = refl
 one_is false b e = ⊎_elim (λ q. absurd (true≢false (sym q))) (λ q. q) e
 
+over_or : (a b c a' b' c' : Bool) → (a || b || c ≡ true) ⊎ (a' || b' || c' ≡ true)
+    → or a a' || or b b' || or c c' ≡ true
+over_or true b c a' b' c' e = refl
+over_or false b c true b' c' e = refl
+over_or false true c false b' c' e = refl
+over_or false false c false true c' e = refl
+over_or false false true false false c' e = refl
+over_or false false false false false c' e = ⊎_elim (λ q. absurd (true≢false (sym q))) (λ q. q) e
+
 module _ {T : Type 0} where
   -- the list that is lent is the one held, and nothing else is held
   pub was : (l : List (ℕ × Homes T)) (y now : Homes T) → l ≡ (0, y) ∷ [] → l ≡ (0, now) ∷ rest l → now ≡ y
@@ -31,7 +40,7 @@ module _ {T : Type 0} where
   only_one l y z a = ap (λ (k : List (ℕ × Homes T)). (0, z) ∷ rest k) a
 
   grows_snoc : (hs : List (Home T)) (h : Home T) → Grows hs (hs ++ h ∷ [])
-  grows_snoc hs h k u at = (u, at_longer hs (h ∷ []) k u at, (refl, λ d. d))
+  grows_snoc hs h k u at = (u, at_longer hs (h ∷ []) k u at, (refl, (λ d. d), λ o. o))
 
   agrees_snoc : (hs : List (Home T)) (h : Home T) (all : List (Made T)) → IsNew h → Agrees hs all → Agrees
       (hs ++ h ∷ []) all
@@ -76,11 +85,11 @@ module _ {T : Type 0} where
 
   -- whoever adds a segment was never told that there will be no more, and nobody was
   grown_told : (s : State (Homes T) (Knows T)) (k : Keeps s) (id : ℕ) (v : Knows T) (hs : List (Home T))
-      → get_elem? s.views id ≡ some v → v.before ≡ k.homes → MayLeave v hs
+      → get_elem? s.views id ≡ some v → v.before ≡ k.homes → MayLeave v hs → Grows k.homes hs
       → AllFitEnd s k id (unlocked v) hs k.mark
-  grown_told s k id v hs at before may = ⊎_elim
-      (λ e. still_told s k id v (unlocked v) hs at (ap length (e ∙ before)) refl (λ q. absurd (true≢false (sym q)))
-      refl refl refl)
+  grown_told s k id v hs at before may grows = ⊎_elim
+      (λ e. still_told s k id v (unlocked v) hs at grows (ap length (e ∙ before)) refl
+      (λ q. absurd (true≢false (sym q))) refl refl refl (λ q. over_grows k.homes hs grows v.at ((k.told id v at).over q)))
       (λ m.
       let b = total_set sends s.views id v (unlocked v) at in
       let low = below_total sends s.views id v at in
@@ -92,12 +101,14 @@ module _ {T : Type 0} where
           may_add = t.may_add;
           alone = λ q. e ∙ t.alone q;
           shut = t.shut;
+          over = λ q. over_grows k.homes hs grows u.at (t.over q);
           last = λ n q. absurd (no_end (t.last n q).1);
         }),
         (let t = k.told id v at in record {
           may_add = λ q. absurd (true≢false (sym q));
           alone = λ q. e ∙ t.alone q;
           shut = t.shut;
+          over = λ q. over_grows k.homes hs grows v.at (t.over q);
           last = λ n q. absurd (no_end (t.last n q).1);
         }),
       ))
@@ -128,7 +139,7 @@ module _ {T : Type 0} where
           idle = λ z. absurd (omega arith);
           ended = ended_stay s k id me.0 (unlocked me.0) at part k.all (λ n _. refl);
         },
-        grown_told s k id me.0 hs at before may,
+        grown_told s k id me.0 hs at before may g,
       ))
 
   -- a pass of the segment where the end is belongs to the hub there
@@ -149,15 +160,21 @@ module _ {T : Type 0} where
       → IsDone h ⊎ (x.over ≡ true) → IsDone g
   done_then x h g did is = ap (λ (z : View T). z.over) did ∙ one_is (hub_view h.hub).over x.over is
 
+  -- and over if it was, or if the pass was told so
+  over_then : (x : View T) (h g : Home T) → hub_view g.hub ≡ took_back (hub_view h.hub) x
+      → IsOver h ⊎ (is_over x ≡ true) → IsOver g
+  over_then x h g did is = let v = hub_view h.hub in ap is_over did
+      ∙ over_or v.over v.sight.full v.sight.cut x.over x.sight.full x.sight.cut is
+
   pub leaves_list : (x : View T) (done : Bool) (slots id : ℕ) (me : Sat T) (y : Homes T) (hs : List (Home T))
       → Stands hs y → me.1 ≡ (0, y) ∷ [] → me.0.live ≡ true → me.0.holds ≡ true → me.0.inside ≡ true
       → Changes me.0.before hs me.0.at (λ h g. HasTakenBack h g x × (done ≡ g.done))
-      → (me.0.takes ≡ false → x.account.got ≡ []) → MayGive (left_segment x.account done) slots id me
+      → (me.0.takes ≡ false → x.account.got ≡ []) → MayGive (left_segment x done) slots id me
   leaves_list x done slots id me y hs stands carried live holds inside c poor = let did = c.4.0 in
-      unlocks_left x.account done slots id me y hs stands carried live holds inside c.0 c.1 c.2 c.3
-      did.0 (λ d. done_then x c.0 c.1 did.1 (inl d)) (ap (λ (z : View T). z.ends) did.1)
-      (ap (λ (z : View T). z.out) did.1)
-      (λ q. sym c.1.tells ∙ sym c.4.1 ∙ q) poor
+      unlocks_left x done slots id me y hs stands carried live holds inside c.0 c.1 c.2 c.3
+      did.0 (λ d. done_then x c.0 c.1 did.1 (inl d)) (λ o. over_then x c.0 c.1 did.1 (inl o))
+      (ap (λ (z : View T). z.ends) did.1) (ap (λ (z : View T). z.out) did.1)
+      (λ q. sym c.1.tells ∙ sym c.4.1 ∙ q) (λ o. over_then x c.0 c.1 did.1 (inr o)) poor
 
   -- the segment is done if the pass saw that
   pub done_if : (x : View T) (done : Bool) (hs gs : List (Home T)) (k : ℕ)

@@ -98,7 +98,8 @@ module _ {T : Type 0} where
               idle = λ z. absurd (omega arith);
               ended = ended_stay s k id v w at part k.all (λ n _. refl);
             }
-            (still_told s k id v w k.homes at refl refl (k.told id v at).may_add refl refl refl)
+            (still_told s k id v w k.homes at (grows_same k.homes) refl refl (k.told id v at).may_add refl refl refl
+            (k.told id v at).over)
             s.words s.homes (lock_view s k.homes k.mark k.mark s.words id v w at refl refl
             (tallies_stay s k.mark id v w at refl refl refl) k.lock)),
         (id, refl),
@@ -175,10 +176,11 @@ module _ {T : Type 0} where
       → AllFitEnd s k id (recounted a b c d v) k.homes k.mark
   tell_on s k id v a b c d at none_left alone =
       let w = recounted a b c d v in
-      let t = told_same k.homes k.homes k.mark s.views (slice_set s.views id w) v refl none_left (k.told id v at) in (
-        λ j u ne at'. told_same k.homes k.homes k.mark s.views (slice_set s.views id w) u refl none_left
-            (k.told j u at'),
-        record { may_add = t.may_add; alone = alone; shut = t.shut; last = t.last },
+      let t = told_same k.homes k.homes k.mark s.views (slice_set s.views id w) v (grows_same k.homes) refl none_left
+      (k.told id v at) in (
+        λ j u ne at'. told_same k.homes k.homes k.mark s.views (slice_set s.views id w) u (grows_same k.homes) refl
+            none_left (k.told j u at'),
+        record { may_add = t.may_add; alone = alone; shut = t.shut; over = t.over; last = t.last },
       )
 
   pub senders_word : (s : State (Homes T) (Knows T)) (k : Keeps s) → slice_index s.words 2 ≡ total sends s.views

@@ -9,7 +9,7 @@ use prog.Atomic.{either}
 use Rattle.atomic_table.specs.Table.{State, Act, keeps, takes, gives, step, stepped, Allows, Valid, carried_after, homes_after, put_back, rest}
 use Rattle.atomic_table.proofs.Lists.{exchanged, set_again, at_set, set_else}
 use Rattle.mb_channel.specs.Types.{Home, Homes, Knows, Past, arc_value}
-use Rattle.mb_channel.specs.Homes.{Agrees, AllPast, Fits, Grows, IsBusy, IsFree, IsHeld, IsIn, IsNear, IsNext, Keeps, Made, MayGive, PastFits, Sat, IsSpent, Stands, FitsEnd}
+use Rattle.mb_channel.specs.Homes.{Agrees, AllPast, AreOver, Fits, Grows, IsBusy, IsFree, IsHeld, IsIn, IsNear, IsNext, Keeps, Made, MayGive, PastFits, Sat, IsSpent, Stands, FitsEnd}
 use Rattle.mb_channel.specs.Homes.{count, how_many, is_in, locked, made_by, made_count, tallies, out_of, receives, rights, sends, takes_lock, total, unlocked}
 use Rattle.mb_channel.proofs.Views.{below_total, in_here, none_many, not_true, past_map, size_set, there, total_set}
 
@@ -18,10 +18,13 @@ module _ {T : Type 0} where
   Same all new id = (n : ℕ) → n ≢ id → made_by n new ≡ made_by n all
 
   pub grows_same : (hs : List (Home T)) → Grows hs hs
-  grows_same hs k h at = (h, at, (refl, λ d. d))
+  grows_same hs k h at = (h, at, (refl, (λ d. d), λ o. o))
 
   pub next_grows : (hs gs : List (Home T)) → Grows hs gs → (k : ℕ) → IsNext hs k → IsNext gs k
   next_grows hs gs grows k is j lt = let a = is j lt in let g = grows j a.0 a.1 in (g.0, g.1, g.2.1 a.2)
+
+  pub over_grows : (hs gs : List (Home T)) → Grows hs gs → (k : ℕ) → AreOver hs k → AreOver gs k
+  over_grows hs gs grows k is j lt = let a = is j lt in let g = grows j a.0 a.1 in (g.0, g.1, g.2.2 a.2)
 
   pub near_grows : (hs gs : List (Home T)) → Grows hs gs → (k : ℕ) → IsNear hs k → IsNear gs k
   near_grows hs gs grows k is = ⊎_elim (λ e. inl e)
@@ -68,13 +71,18 @@ module _ {T : Type 0} where
       λ i. x i ∷ y i ∷ z i ∷ mark ∷ []
 
   pub told_same : (hs gs : List (Home T)) (mark : ℕ) (views ws : List (Knows T)) (u : Knows T)
-      → length gs ≡ length hs → (total sends views ≡ 0 → total sends ws ≡ 0) → FitsEnd hs mark views u
+      → Grows hs gs → length gs ≡ length hs → (total sends views ≡ 0 → total sends ws ≡ 0) → FitsEnd hs mark views u
       → FitsEnd gs mark ws u
-  told_same hs gs mark views ws u size none_left t = record {
+  told_same hs gs mark views ws u grows size none_left t = record {
     may_add = t.may_add;
     alone = λ q. none_left (t.alone q);
     shut = t.shut;
-    last = λ n q. let x = t.last n q in (size ∙ x.0, ⊎_elim (λ e. inl e) (λ e. inr (none_left e)) x.1);
+    over = λ q. over_grows hs gs grows u.at (t.over q);
+    last = λ n q. let x = t.last n q in (
+      size ∙ x.0,
+      ⊎_elim (λ e. inl e) (λ e. inr (none_left e)) x.1,
+      over_grows hs gs grows n x.2,
+    );
   }
 
   -- what the others say is still so after the step of one
@@ -84,18 +92,20 @@ module _ {T : Type 0} where
 
   -- where the list and the number of senders stay
   pub still_told : (s : State (Homes T) (Knows T)) (k : Keeps s) (id : ℕ) (v w : Knows T) (hs : List (Home T))
-      → get_elem? s.views id ≡ some v → length hs ≡ length k.homes → w.sends ≡ v.sends
+      → get_elem? s.views id ≡ some v → Grows k.homes hs → length hs ≡ length k.homes → w.sends ≡ v.sends
       → (w.may_add ≡ true → (w.holds ≡ true) × (0 < k.mark)) → w.alone ≡ v.alone → w.shut ≡ v.shut → w.last ≡ v.last
-      → AllFitEnd s k id w hs k.mark
-  still_told s k id v w hs at size same may_add alone shut last =
+      → (w.orderly ≡ true → AreOver hs w.at) → AllFitEnd s k id w hs k.mark
+  still_told s k id v w hs at grows size same may_add alone shut last over =
       let b = total_set sends s.views id v w at in
       let e : total sends (slice_set s.views id w) ≡ total sends s.views = omega arith in
-      let t = told_same k.homes hs k.mark s.views (slice_set s.views id w) v size (λ q. e ∙ q) (k.told id v at) in (
-        λ j u ne at'. told_same k.homes hs k.mark s.views (slice_set s.views id w) u size (λ q. e ∙ q) (k.told j u at'),
+      let t = told_same k.homes hs k.mark s.views (slice_set s.views id w) v grows size (λ q. e ∙ q) (k.told id v at) in (
+        λ j u ne at'. told_same k.homes hs k.mark s.views (slice_set s.views id w) u grows size (λ q. e ∙ q)
+            (k.told j u at'),
         record {
           may_add = may_add;
           alone = λ q. t.alone (sym alone ∙ q);
           shut = λ q. t.shut (sym shut ∙ q);
+          over = over;
           last = λ n q. t.last n (sym last ∙ q);
         },
       )
@@ -220,7 +230,8 @@ module _ {T : Type 0} where
               idle = λ z. absurd (omega arith);
               ended = ended_stay s k id v w at part k.all (λ n _. refl);
             }
-            (still_told s k id v w k.homes at refl refl (λ q. (refl, ((k.told id v at).may_add q).1)) refl refl refl)
+            (still_told s k id v w k.homes at (grows_same k.homes) refl refl
+            (λ q. (refl, ((k.told id v at).may_add q).1)) refl refl refl (k.told id v at).over)
             (slice_set s.words 0 1) (slice_set s.homes 0 none)
             (inr (
               id,

@@ -8,7 +8,7 @@ use lib.ListN.{get_elem?}
 use Rattle.atomic_table.specs.Table.{Allows, Me, State, Step, step}
 use Rattle.atomic_table.specs.declared.shared.Seat.{Seat}
 use Rattle.mb_channel.specs.Types.{Account, Arc, Global, Home, Homes, Knows, Pass, Past, Segment, View, Visit, arc_value}
-use Rattle.mb_segment.specs.Vocabulary.{IsWhole as SegmentIsWhole, hub_view, issued, new_hub, took_back}
+use Rattle.mb_segment.specs.Vocabulary.{IsWhole as SegmentIsWhole, hub_view, is_over, issued, new_hub, took_back}
 
 -- ---- the visits of all ends, the newest first
 pub record Made (T : Type 0) : Type 0 where
@@ -42,6 +42,10 @@ came_back h = (hub_view h.hub).ends
 abbrev pub IsDone : {T : Type 0} → Home T → Type 0
 IsDone h = (hub_view h.hub).over ≡ true
 
+-- the hub knows that the segment is over: nothing can be sent there any more
+abbrev pub IsOver : {T : Type 0} → Home T → Type 0
+IsOver h = is_over (hub_view h.hub) ≡ true
+
 -- how many of its passes are out
 abbrev pub out_of : {T : Type 0} → Home T → ℕ
 out_of h = (hub_view h.hub).out
@@ -72,14 +76,18 @@ At {T} hs k P = (h : Home T) × (get_elem? hs k ≡ some h) × P h
 abbrev pub IsNext : {T : Type 0} → List (Home T) → ℕ → Type 0
 IsNext hs k = (j : ℕ) → j < k → At hs j IsDone
 
+-- each segment before k is over
+abbrev pub AreOver : {T : Type 0} → List (Home T) → ℕ → Type 0
+AreOver hs k = (j : ℕ) → j < k → At hs j IsOver
+
 -- segment k is there, or it may be the next one
 abbrev pub IsNear : {T : Type 0} → List (Home T) → ℕ → Type 0
 IsNear {T} hs k = (k ≡ 0) ⊎ ((j : ℕ) × (suc j ≡ k) × At hs j (λ _. Unit {0}))
 
--- the later list has the same segments, and what was done is done
+-- the later list has the same segments, and what was done or over still is
 abbrev pub Grows : {T : Type 0} → List (Home T) → List (Home T) → Type 0
 Grows {T} hs gs = (k : ℕ) (h : Home T) → get_elem? hs k ≡ some h
-    → At gs k (λ g. (g.segment ≡ h.segment) × (IsDone h → IsDone g))
+    → At gs k (λ g. (g.segment ≡ h.segment) × (IsDone h → IsDone g) × (IsOver h → IsOver g))
 
 -- the hubs know just the visits
 pub record Agrees {T : Type 0} (hs : List (Home T)) (all : List (Made T)) : Type 0 where
@@ -100,6 +108,7 @@ first_view = record {
   at = 0;
   place = None;
   takes = true;
+  orderly = true;
   ended = [];
   holds = false;
   before = [];
@@ -133,12 +142,13 @@ tallies views mark = total rights views ∷ total sends views ∷ total receives
 abbrev pub IsShut : {T : Type 0} → ℕ → List (Knows T) → Type 0
 IsShut mark views = (mark ≡ 0) ⊎ (total sends views ≡ 0)
 
--- what a view says of the senders, the mark and the number of segments is so
+-- what a view says of the senders, the mark, and the segments, is so
 pub record FitsEnd {T : Type 0} (hs : List (Home T)) (mark : ℕ) (views : List (Knows T)) (v : Knows T) : Type 0 where
   pub may_add : v.may_add ≡ true → (v.holds ≡ true) × (0 < mark)
   pub alone : v.alone ≡ true → total sends views ≡ 0
   pub shut : v.shut ≡ true → mark ≡ 0
-  pub last : (n : ℕ) → v.last ≡ Some n → (length hs ≡ n) × IsShut mark views
+  pub over : v.orderly ≡ true → AreOver hs v.at
+  pub last : (n : ℕ) → v.last ≡ Some n → (length hs ≡ n) × IsShut mark views × AreOver hs n
 
 -- 1 for an end that has a pass of segment k
 abbrev pub is_in : {T : Type 0} → ℕ → Knows T → ℕ
@@ -245,6 +255,10 @@ counts_more v = record v { rights = v.rights + 1 }
 abbrev pub past_of : {T : Type 0} → Knows T → Past T
 past_of v = record { number = v.number; visits = v.visits }
 
+abbrev pub told_or : Option ℕ → Option ℕ → Option ℕ
+told_or None b = b
+told_or (Some n) b = Some n
+
 abbrev pub both : {T : Type 0} → Knows T → Knows T → Knows T
 both v w = record v {
   rights = v.rights + w.rights;
@@ -253,6 +267,7 @@ both v w = record v {
   ended = v.ended ++ (past_of w ∷ w.ended);
   alone = v.alone || w.alone;
   shut = v.shut || w.shut;
+  last = told_or v.last w.last;
 }
 
 -- an end that was not there before. It begins where its maker is, counts for so many senders and receivers, and knows as
@@ -261,6 +276,7 @@ abbrev pub newborn_view : {T : Type 0} → ℕ → ℕ → Knows T → Knows T
 newborn_view a b v = record first_view {
   at = v.at;
   takes = v.takes;
+  orderly = v.orderly;
   sends = a;
   receives = b;
   alone = v.alone;
@@ -272,13 +288,15 @@ newborn_view a b v = record first_view {
 abbrev pub splits_off : {T : Type 0} → ℕ → ℕ → Knows T → Knows T
 splits_off a b v = record v { rights = v.rights - 1; sends = v.sends - a; receives = v.receives - b }
 
--- it has left its segment, in which it did this. If that is done, it may receive in the next one if it could in that
-abbrev pub left_segment : {T : Type 0} → Account T → Bool → Knows T → Knows T
-left_segment a done v = record v {
-  visits = record { segment = v.at; account = a } ∷ v.visits;
+-- it has left its segment, of which its pass knows this. If that is done, it may receive in the next one if it could in
+-- that. It was orderly only if the pass was told that the segment is over
+abbrev pub left_segment : {T : Type 0} → View T → Bool → Knows T → Knows T
+left_segment x done v = record v {
+  visits = record { segment = v.at; account = x.account } ∷ v.visits;
   inside = false;
   at = suc v.at;
   takes = v.takes && done;
+  orderly = v.orderly && is_over x;
 }
 
 -- all segments before k are freed: it goes on to that one, and may receive there

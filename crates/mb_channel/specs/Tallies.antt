@@ -35,7 +35,7 @@ saw_open v = record v { may_add = v.holds }
 
 -- a load of the number of senders, and of the mark
 abbrev pub sees_senders : {T : Type 0} → Step (Homes T) → Sat T → ℕ → Sat T → Type 0
-sees_senders st m r n = (n.1 ≡ m.1) × (r ≡ 0 → n.0 ≡ saw_none m.0) × (r ≢ 0 → n.0 ≡ m.0)
+sees_senders st m r n = (n.1 ≡ m.1) × (r ≡ 0 → (n.0 ≡ saw_none m.0) × (m.0.sends ≡ 0)) × (r ≢ 0 → n.0 ≡ m.0)
 
 abbrev pub sees_mark : {T : Type 0} → Step (Homes T) → Sat T → ℕ → Sat T → Type 0
 sees_mark st m r n = (n.1 ≡ m.1) × (r ≡ 0 → n.0 ≡ saw_closed m.0)
@@ -45,9 +45,10 @@ sees_mark st m r n = (n.1 ≡ m.1) × (r ≡ 0 → n.0 ≡ saw_closed m.0)
 abbrev pub closing : {T : Type 0} → Step (Homes T) → Sat T → ℕ → Sat T → Type 0
 closing st m r n = (n.1 ≡ m.1) × (n.0 ≡ record m.0 { may_add = false; shut = true })
 
--- it is told that there are just n segments, for ever: it saw that the list is closed or that no sender is left
+-- it is told that there are just n segments, for ever: it saw that the list is closed or that no sender is left. So each
+-- of them is over
 abbrev pub told_last : {T : Type 0} → ℕ → Knows T → Knows T
 told_last n v = record v { last = Some n }
 
 abbrev pub IsTold : {T : Type 0} → ℕ → Knows T → Knows T → Type 0
-IsTold n v w = (w ≡ told_last n (saw_closed v)) ⊎ (w ≡ told_last n (saw_none v))
+IsTold n v w = (w ≡ told_last n (saw_closed v)) ⊎ ((w ≡ told_last n (saw_none v)) × (v.sends ≡ 0))

@@ -23,6 +23,7 @@ pub struct Inside<T: Drop> {
 
 impl<T: Drop> Inside<T> {
     ghost use Rattle.std.specs.Prelude.{◌++◌, ◌∷◌, [], true, IfErr, IfNone, IfSome, OnOk};
+    ghost use Rattle.mb_segment.specs.Vocabulary.{is_over};
     ghost use Rattle.mb_channel.specs.Inside.{account_in, values};
 
     /// Sends a value here. It comes back if no more can be sent here.
@@ -31,7 +32,8 @@ impl<T: Drop> Inside<T> {
         ensures sent { OnOk result.1 (values (account_in result.0).sent
             ≡ values (account_in self).sent ++ value ∷ []) }
         ensures back { IfErr result.1 (λ x. (x ≡ value)
-            × ((account_in result.0).sent ≡ (account_in self).sent)) }
+            × ((account_in result.0).sent ≡ (account_in self).sent)
+            × (is_over result.0.pass.seat.me.0 ≡ true)) }
         ensures got { (account_in result.0).got ≡ (account_in self).got }
     {
         let Inside {

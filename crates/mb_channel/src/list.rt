@@ -134,6 +134,7 @@ impl<T: Drop> List<T> {
         ensures list { IfOk result (λ r. r.1.table_id ≡ r.0.table.shared.table_id) }
         ensures first { IfOk result (λ r. IsReady r.1.me × IsFirst (view_in r.1)
             × ((view_in r.1).at ≡ 0) × ((view_in r.1).takes ≡ true)
+            × ((view_in r.1).orderly ≡ true)
             × ((view_in r.1).sends ≡ 1) × ((view_in r.1).receives ≡ 1)) }
     {
         let homes = no_homes(alloc)?;
@@ -179,6 +180,7 @@ impl<T: Drop> List<T> {
         ensures new { IsReady result.me × IsFirst (view_in result)
             × ((view_in result).at ≡ (view_in chair.old).at)
             × ((view_in result).takes ≡ (view_in chair.old).takes)
+            × ((view_in result).orderly ≡ (view_in chair.old).orderly)
             × ((view_in result).sends ≡ S.sends) × ((view_in result).receives ≡ S.receives)
             × ((view_in result).last ≡ (view_in chair.old).last) }
     {

@@ -93,7 +93,8 @@ impl<T: Drop> List<T> {
         requires live { (view_in chair.old).live ≡ true }
         ensures list { (chair.new.table_id ≡ chair.old.table_id) × (chair.new.id ≡ chair.old.id) }
         ensures held { chair.new.me.1 ≡ chair.old.me.1 }
-        ensures none { result ≡ true → view_in chair.new ≡ saw_none (view_in chair.old) }
+        ensures none { result ≡ true → (view_in chair.new ≡ saw_none (view_in chair.old))
+            × ((view_in chair.old).sends ≡ 0) }
         ensures some { result ≡ false → view_in chair.new ≡ view_in chair.old }
     {
         self.table.shared.load::<SeesSenders>(chair, 2) == 0

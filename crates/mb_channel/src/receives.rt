@@ -1,6 +1,7 @@
 //! The calls that receive.
-ghost use Rattle.std.specs.Prelude.{◌≡◌, ◌⊎◌, ◌++◌, ◌∷◌, [], false, is_some, IfNone, IfOk, IfSome, OnErr};
-ghost use Rattle.mb_channel.specs.Ends.{IsEndOf, IsSame, got_by, sent_by};
+ghost use Rattle.std.specs.Prelude.{◌≡◌, ◌⊎◌, ◌++◌, ◌∷◌, [], false, is_some, IfErr, IfNone, IfOk, IfSome, OnErr};
+ghost use Rattle.mb_channel.specs.Answers.{IfClosed};
+ghost use Rattle.mb_channel.specs.Ends.{IsBehind, IsEndOf, IsSame, got_by, sent_by};
 ghost use Rattle.mb_channel.specs.Receives.{OfTried, SawEmpty};
 
 use crate::channel::{Channel, Refused};
@@ -15,13 +16,15 @@ use std::time::{Clock, Instant};
 const TRIES: u32 = 4;
 
 impl<T: Drop> Channel<T> {
-    /// Receives the next value, and sleeps until there is one.
+    /// Receives the next value, and sleeps until there is one. [`Refused::Closed`] is told only behind the last segment,
+    /// and then for ever: nothing waits in the channel, and nothing can be sent.
     pub fn receive<R: Wait>(&self, rt: &R, receiver: &mut Receiver<T>) -> Result<T, Refused>
         requires channel { IsEndOf self.now receiver.old.end }
         ensures end { IsSame receiver.old.end receiver.new.end }
         ensures got { IfOk result (λ x. got_by receiver.new.end
             ≡ got_by receiver.old.end ++ x ∷ []) }
         ensures none { OnErr result (got_by receiver.new.end ≡ got_by receiver.old.end) }
+        ensures closed { IfErr result (λ why. IfClosed why (IsBehind receiver.new.end)) }
         ensures sent { sent_by receiver.new.end ≡ sent_by receiver.old.end }
     {
         for _ in rt.forever() {
@@ -52,6 +55,7 @@ impl<T: Drop> Channel<T> {
             ⊎ (is_some receiver.new.end.inside ≡ false))
             × (got_by receiver.new.end ≡ got_by receiver.old.end))) }
         ensures none { OnErr result (got_by receiver.new.end ≡ got_by receiver.old.end) }
+        ensures closed { IfErr result (λ why. IfClosed why (IsBehind receiver.new.end)) }
         ensures sent { sent_by receiver.new.end ≡ sent_by receiver.old.end }
     {
         for _ in rt.forever() {
@@ -83,6 +87,7 @@ impl<T: Drop> Channel<T> {
             × (got_by receiver.new.end ≡ got_by receiver.old.end))
             (got_by receiver.new.end ≡ got_by receiver.old.end)) }
         ensures none { OnErr result (got_by receiver.new.end ≡ got_by receiver.old.end) }
+        ensures closed { IfErr result (λ why. IfClosed why (IsBehind receiver.new.end)) }
         ensures sent { sent_by receiver.new.end ≡ sent_by receiver.old.end }
     {
         for _ in 0..TRIES {

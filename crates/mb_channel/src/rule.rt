@@ -34,18 +34,18 @@ impl<T> Change<T> for Brand {
     ghost of = { λ v. v };
 }
 
-/// What an end did in the segment that it leaves. A proof picks it.
+/// What the pass of an end knows that leaves its segment. A proof picks it.
 pub trait Stay<T> {
-    ghost use Rattle.mb_segment.specs.declared.view.Account.{Account};
+    ghost use Rattle.mb_segment.specs.declared.view.View.{View};
 
-    ghost account: { Account T };
+    ghost knew: { View T };
 }
 
 // This one is not used.
 impl<T> Stay<T> for Brand {
-    ghost use Rattle.mb_segment.specs.Vocabulary.{nothing_done};
+    ghost use Rattle.mb_segment.specs.Vocabulary.{blank};
 
-    ghost account = { nothing_done };
+    ghost knew = { blank };
 }
 
 pub struct GivesLock<F> {
@@ -159,6 +159,15 @@ impl Side for AsReceiver {
     ghost sends = { 0 };
 
     ghost receives = { 1 };
+}
+
+/// An end that neither sends nor receives.
+pub struct AsNobody;
+
+impl Side for AsNobody {
+    ghost sends = { 0 };
+
+    ghost receives = { 0 };
 }
 
 pub struct Splits<S> {

@@ -112,8 +112,10 @@ pub fn sample_visits()
 
 /// An end is told "closed" where it saw that no sender is left, or that the list is closed. Refused: that it saw neither.
 pub fn sample_told()
-    ensures alone { IsTold 2 (first_view {T = ℕ})
-        (record first_view { alone = true; last = Some 2 }) }
+    ensures alone { IsTold 2 (record (first_view {T = ℕ}) { sends = 0 })
+        (record first_view { sends = 0; alone = true; last = Some 2 }) }
+    ensures sender { IsTold 2 (first_view {T = ℕ})
+        (record first_view { alone = true; last = Some 2 }) → ⊥ }
     ensures shut { IsTold 2 (first_view {T = ℕ})
         (record first_view { shut = true; last = Some 2 }) }
     ensures neither { IsTold 2 (first_view {T = ℕ}) (record first_view { last = Some 2 }) → ⊥ }

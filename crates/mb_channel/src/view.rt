@@ -31,6 +31,8 @@ pub struct Knows<T: Drop> {
     pub place: Option<Shared<T>>,
     /// Whether it may receive there.
     pub takes: bool,
+    /// Whether it left each segment only once that was over, and so did the ends that it was made from.
+    pub orderly: bool,
     /// The ends that were given back to it.
     pub ended: LinkedList<Past<T>>,
     /// Whether it has the lock, and all segments that there ever were.

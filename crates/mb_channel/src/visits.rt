@@ -52,7 +52,7 @@ impl<T: Drop> List<T> {
     /// Leaves the segment, under the lock, and gives that back.
     fn part<X: Stay<T>>(&self, chair: &mut Chair<T>, at: usize, pass: Pass<T>, over: bool) -> bool
         requires list { chair.old.table_id ≡ self.now.table.shared.table_id }
-        requires picked { X.account ≡ (pass_view pass).account }
+        requires picked { X.knew ≡ pass_view pass }
         requires held { ((view_in chair.old).live ≡ true) × ((view_in chair.old).holds ≡ true)
             × ((view_in chair.old).inside ≡ true) × ((view_in chair.old).at ≡ at) }
         requires homes { HoldsHomes chair.old.me (λ hs. hs ≡ (view_in chair.old).before) }
@@ -64,7 +64,7 @@ impl<T: Drop> List<T> {
         ensures list { (chair.new.table_id ≡ chair.old.table_id) × (chair.new.id ≡ chair.old.id) }
         ensures left { (chair.new.me.1 ≡ [])
             × (view_in chair.new
-            ≡ left_segment (pass_view pass).account result (unlocked (view_in chair.old)))
+            ≡ left_segment (pass_view pass) result (unlocked (view_in chair.old)))
             × ((pass_view pass).over ≡ true → result ≡ true) }
     {
         let done = self.give_pass(chair, at, pass, over);
@@ -91,7 +91,7 @@ impl<T: Drop> List<T> {
         ensures list { (chair.new.table_id ≡ chair.old.table_id) × (chair.new.id ≡ chair.old.id) }
         ensures left { IfOk result (λ done. (chair.new.me.1 ≡ [])
             × (view_in chair.new
-            ≡ left_segment (pass_view pass).account done (unlocked (view_in chair.old)))
+            ≡ left_segment (pass_view pass) done (unlocked (view_in chair.old)))
             × ((pass_view pass).over ≡ true → done ≡ true)) }
         ensures kept { IfErr result (λ p. (p ≡ pass) × (chair.new.me ≡ chair.old.me)) }
     {
@@ -180,7 +180,8 @@ impl<T: Drop> List<T> {
         requires picked { F.of ≡ told_last last }
         requires held { ((view_in chair.old).live ≡ true) × ((view_in chair.old).holds ≡ true) }
         requires homes { HoldsHomes chair.old.me (λ hs. hs ≡ (view_in chair.old).before) }
-        requires last { length (view_in chair.old).before ≡ last }
+        requires last { (length (view_in chair.old).before ≡ last)
+            × ((view_in chair.old).at ≡ last) × ((view_in chair.old).orderly ≡ true) }
         requires seen { ((view_in chair.old).shut ≡ true) ⊎ ((view_in chair.old).alone ≡ true) }
         ensures list { (chair.new.table_id ≡ chair.old.table_id) × (chair.new.id ≡ chair.old.id) }
         ensures view { (view_in chair.new ≡ told_last last (unlocked (view_in chair.old)))
@@ -195,7 +196,8 @@ impl<T: Drop> List<T> {
         requires list { chair.old.table_id ≡ self.now.table.shared.table_id }
         requires held { ((view_in chair.old).live ≡ true) × ((view_in chair.old).holds ≡ true) }
         requires homes { HoldsHomes chair.old.me (λ hs. hs ≡ (view_in chair.old).before) }
-        requires last { length (view_in chair.old).before ≡ at }
+        requires last { (length (view_in chair.old).before ≡ at)
+            × ((view_in chair.old).at ≡ at) × ((view_in chair.old).orderly ≡ true) }
         ensures list { (chair.new.table_id ≡ chair.old.table_id) × (chair.new.id ≡ chair.old.id) }
         ensures answer { OfCame result (λ _ _. ⊥) (λ _. ⊥)
             ((chair.new.me.1 ≡ []) × (view_in chair.new ≡ unlocked (view_in chair.old)))
@@ -220,6 +222,7 @@ impl<T: Drop> List<T> {
         requires ready { IsReady chair.old.me }
         requires here { ((view_in chair.old).at ≡ at) × ((view_in chair.old).inside ≡ false) }
         requires side { takes ≡ true → (view_in chair.old).takes ≡ true }
+        requires orderly { (view_in chair.old).orderly ≡ true }
         ensures list { (chair.new.table_id ≡ chair.old.table_id) × (chair.new.id ≡ chair.old.id) }
         ensures answer { OfCame result
             (λ s p. (chair.new.me.1 ≡ [])

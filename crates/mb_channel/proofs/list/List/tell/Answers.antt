@@ -17,7 +17,7 @@ tell_last-requires-then-sees_no_sender-clause-homes g c = let y = c.requires.hom
   c.sees_no_sender.ensures.held ∙ c.sees_closed.ensures.held ∙ y.1,
   y.2,
   y.3,
-  y.4 ∙ sym (ap (λ (v : Knows _). v.before) (c.sees_no_sender.ensures.none c.if-sees_no_sender.true)
+  y.4 ∙ sym (ap (λ (v : Knows _). v.before) (c.sees_no_sender.ensures.none c.if-sees_no_sender.true).0
       ∙ ap (λ (v : Knows _). v.before) (c.sees_closed.ensures.open_ c.if-sees_closed.false)),
 )
 
