@@ -111,6 +111,7 @@ module _ {T : Type 0} where
             (sym t.1))))
             (snoc_cases one new u j e))
             k.lock;
+        leads = k.leads;
         agrees = k.agrees;
         told = λ j u e. ⊎_elim
             (λ there_. ⊎_elim
@@ -224,6 +225,7 @@ module _ {T : Type 0} where
             (at_set s.views id j (both v w) u t.1))
             (at_set one other j spent_view u e))
             k.lock;
+        leads = k.leads;
         agrees = k.agrees;
         told = λ j u e. ⊎_elim
             (λ (t : (j ≡ other) × (spent_view ≡ u)). subst (λ (z : Knows T). FitsEnd k.homes k.mark two z) t.1

@@ -9,7 +9,7 @@ use lib.ListN.{get_elem?}
 use Rattle.mb_channel.specs.Types.{Arc, Global, Home, Homes, Knows, Pass, Segment, View, arc_value}
 use Rattle.atomic_table.specs.Table.{State, rest}
 use Rattle.atomic_table.proofs.Lists.{at_longer}
-use Rattle.mb_channel.specs.Homes.{Agrees, At, Changes, Grows, HasIssued, HasTakenBack, IsBusy, IsDone, IsIn, IsNew, IsNext, IsOver}
+use Rattle.mb_channel.specs.Homes.{Agrees, AreLed, AreOver, At, Changes, Grows, HasIssued, HasTakenBack, IsBusy, IsDone, IsIn, IsNew, IsNext, IsOver}
 use Rattle.mb_channel.specs.Homes.{IsPassOf, IsShut, Keeps, Longer, Made, MayGive, MayLeave, Sat, Stands, came_back, came_to, is_in, left_segment, out_of, sends, total, unlocked}
 use Rattle.mb_channel.proofs.Moves.{AllFitEnd, busy_same, ended_stay, grows_same, in_grows, near_grows, next_grows, over_grows, still_told, unlocks}
 use Rattle.mb_channel.proofs.Stays.{unlocks_came, unlocks_left}
@@ -55,13 +55,23 @@ module _ {T : Type 0} where
         (grows_snoc hs h) m.visit.segment r)) x) a.turn;
   }
 
-  pub grows_longer : (hs gs : List (Home T)) → Longer hs gs → Grows hs gs
-  grows_longer hs gs l = ⊎_elim (λ e. subst (λ x. Grows hs x) (sym e) (grows_same hs))
+  pub grows_longer : (n : ℕ) (hs gs : List (Home T)) → Longer n hs gs → Grows hs gs
+  grows_longer n hs gs l = ⊎_elim (λ e. subst (λ x. Grows hs x) (sym e) (grows_same hs))
       (λ m. subst (λ x. Grows hs x) (sym m.2) (grows_snoc hs m.0)) l
 
-  pub agrees_longer : (hs gs : List (Home T)) → Longer hs gs → (all : List (Made T)) → Agrees hs all → Agrees gs all
-  agrees_longer hs gs l all a = ⊎_elim (λ e. subst (λ x. Agrees x all) (sym e) a)
+  pub agrees_longer : (n : ℕ) (hs gs : List (Home T)) → Longer n hs gs → (all : List (Made T))
+      → Agrees hs all → Agrees gs all
+  agrees_longer n hs gs l all a = ⊎_elim (λ e. subst (λ x. Agrees x all) (sym e) a)
       (λ m. subst (λ x. Agrees x all) (sym m.2) (agrees_snoc hs m.0 all m.1 a)) l
+
+  -- all before the new segment are over
+  led_longer : (n : ℕ) (hs gs : List (Home T)) → Longer n hs gs → AreOver hs n → AreLed hs → AreLed gs
+  led_longer n hs gs l over led = ⊎_elim (λ e. subst (λ x. AreLed x) (sym e) led)
+      (λ m. subst (λ x. AreLed x) (sym m.2) (λ j lt. (
+      let more = size_snoc hs m.0 in
+      let e = m.3 in
+      let a = over j (omega arith) in (a.0, at_longer hs (m.0 ∷ []) j a.0 a.1, a.2)
+      ))) l
 
   -- nobody has a pass of a segment that is not there
   none_in : (s : State (Homes T) (Knows T)) (k : Keeps s) (m : ℕ) → length k.homes ≤ m → total (is_in m) s.views ≡ 0
@@ -72,9 +82,10 @@ module _ {T : Type 0} where
           in_else u m (λ q. omega arith)
       go j u at false is = in_none u m is
 
-  busy_longer : (s : State (Homes T) (Knows T)) (k : Keeps s) (gs : List (Home T)) → Longer k.homes gs → (p m : ℕ)
+  busy_longer : (s : State (Homes T) (Knows T)) (k : Keeps s) (n : ℕ) (gs : List (Home T))
+      → Longer n k.homes gs → (p m : ℕ)
       (h : Home T) → get_elem? gs m ≡ some h → out_of h + p ≡ total (is_in m) s.views + p
-  busy_longer s k gs l p m h e = ⊎_elim
+  busy_longer s k n gs l p m h e = ⊎_elim
       (λ q. busy_same s k m p h (ap (λ x. get_elem? x m) (sym q) ∙ e))
       (λ q. ⊎_elim (λ at. busy_same s k m p h at)
       (λ (t : (m ≡ length k.homes) × (q.0 ≡ h)). (
@@ -89,7 +100,8 @@ module _ {T : Type 0} where
       → AllFitEnd s k id (unlocked v) hs k.mark
   grown_told s k id v hs at before may grows = ⊎_elim
       (λ e. still_told s k id v (unlocked v) hs at grows (ap length (e ∙ before)) refl
-      (λ q. absurd (true≢false (sym q))) refl refl refl (λ q. over_grows k.homes hs grows v.at ((k.told id v at).over q)))
+      (λ q. absurd (true≢false (sym q))) refl refl refl
+      (λ q. over_grows k.homes hs grows v.at ((k.told id v at).over q)))
       (λ m.
       let b = total_set sends s.views id v (unlocked v) at in
       let low = below_total sends s.views id v at in
@@ -121,14 +133,19 @@ module _ {T : Type 0} where
       (λ v. v) slots id me y hs stands carried live holds refl refl refl refl refl
       (λ s k at part before.
       let f = k.fits id me.0 at in
-      let l : Longer k.homes hs = subst (λ x. Longer x hs) before (⊎_elim (λ e. inl e) (λ m. m.2) may) in
-      let g = grows_longer k.homes hs l in (
+      let l : Longer me.0.at k.homes hs = subst (λ x. Longer me.0.at x hs) before
+      (⊎_elim (λ e. inl e) (λ m. m.3) may) in
+      let g = grows_longer me.0.at k.homes hs l in
+      let led : AreLed hs = ⊎_elim (λ e. subst (λ x. AreLed x) (sym (e ∙ before)) k.leads)
+      (λ m. led_longer me.0.at k.homes hs (subst (λ x. Longer me.0.at x hs) before m.3)
+      ((k.told id me.0 at).over m.2) k.leads) may in (
         k.all,
         g,
-        agrees_longer k.homes hs l k.all k.agrees,
+        led,
+        agrees_longer me.0.at k.homes hs l k.all k.agrees,
         (λ n _. refl),
         (λ g. omega arith),
-        (λ m h e. busy_longer s k hs l (is_in m me.0) m h e),
+        (λ m h e. busy_longer s k me.0.at hs l (is_in m me.0) m h e),
         record {
           named = f.named;
           falls = f.falls;

@@ -7,7 +7,7 @@ use lib.ListN.{get_elem?}
 use native.Mathlib.Decide.{ℕ_discrete}
 use Rattle.atomic_table.specs.Table.{State, Act, keeps, step, stepped, Allows, Valid, carried_after}
 use Rattle.mb_channel.specs.Types.{Home, Homes, Knows}
-use Rattle.mb_channel.specs.Homes.{Agrees, AreOver, Grows, IsIn, IsNear, IsNext, IsShut, Keeps, MayGive, Sat, Stands}
+use Rattle.mb_channel.specs.Homes.{Agrees, AreLed, AreOver, Grows, IsIn, IsNear, IsNext, IsShut, Keeps, MayGive, Sat, Stands}
 use Rattle.mb_channel.specs.Homes.{is_in, sends, tallies, total, unlocked}
 use Rattle.mb_channel.specs.Tallies.{closing, saw_closed, saw_none, sees_mark, sees_senders, told_last}
 use Rattle.mb_channel.proofs.Members.{lock_view, senders_word, mark_word, set_same, tallies_stay, unchanged}
@@ -36,7 +36,7 @@ module _ {T : Type 0} where
       let w = noticed a b c v in
       let f = k.fits id v at in
       let part = has_part k.homes k.all s.views id v f live in
-      moved s k id v w at part refl k.homes k.all mark (grows_same k.homes) k.agrees (λ n _. refl)
+      moved s k id v w at part refl k.homes k.all mark (grows_same k.homes) k.leads k.agrees (λ n _. refl)
       (λ g. omega arith) (λ m h e. busy_same s k m (is_in m v) h e)
       record {
         named = f.named;
@@ -192,6 +192,7 @@ module _ {T : Type 0} where
       let never : IsShut k.mark (slice_set s.views id w) = ⊎_elim (λ q. inl (t.shut q)) (λ q. inr (t.alone q)) seen in (
         k.all,
         grows,
+        subst (λ l. AreLed l) now k.leads,
         subst (λ l. Agrees l k.all) now k.agrees,
         (λ j _. refl),
         (λ g. omega arith),

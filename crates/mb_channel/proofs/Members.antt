@@ -84,7 +84,7 @@ module _ {T : Type 0} where
         tt,
         subst (λ (z : List ℕ). Keeps record { words = z; homes = s.homes; views = slice_set s.views id w }) (sym
             (stays_word s k (slice_index s.words 0) refl))
-            (moved s k id v w at part refl k.homes k.all k.mark (grows_same k.homes) k.agrees (λ n _. refl)
+            (moved s k id v w at part refl k.homes k.all k.mark (grows_same k.homes) k.leads k.agrees (λ n _. refl)
             (λ g. let x : times (g id) v.visits ≡ 0 = ap (times (g id)) b.0 in let y : times
             (g v.number) v.visits ≡ 0 = ap (times (g v.number)) b.0 in omega arith)
             (λ m h e. busy_same s k m (is_in m v) h e)
@@ -144,7 +144,7 @@ module _ {T : Type 0} where
         w,
         keeps,
         tt,
-        moved s k id v w at part refl k.homes k.all k.mark (grows_same k.homes) k.agrees (λ n _. refl)
+        moved s k id v w at part refl k.homes k.all k.mark (grows_same k.homes) k.leads k.agrees (λ n _. refl)
             (λ g. omega arith) (λ m h e. busy_same s k m (is_in m v) h e)
             record {
               named = x.named;

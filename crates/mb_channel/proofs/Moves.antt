@@ -9,7 +9,7 @@ use prog.Atomic.{either}
 use Rattle.atomic_table.specs.Table.{State, Act, keeps, takes, gives, step, stepped, Allows, Valid, carried_after, homes_after, put_back, rest}
 use Rattle.atomic_table.proofs.Lists.{exchanged, set_again, at_set, set_else}
 use Rattle.mb_channel.specs.Types.{Home, Homes, Knows, Past, arc_value}
-use Rattle.mb_channel.specs.Homes.{Agrees, AllPast, AreOver, Fits, Grows, IsBusy, IsFree, IsHeld, IsIn, IsNear, IsNext, Keeps, Made, MayGive, PastFits, Sat, IsSpent, Stands, FitsEnd}
+use Rattle.mb_channel.specs.Homes.{Agrees, AllPast, AreLed, AreOver, Fits, Grows, IsBusy, IsFree, IsHeld, IsIn, IsNear, IsNext, Keeps, Made, MayGive, PastFits, Sat, IsSpent, Stands, FitsEnd}
 use Rattle.mb_channel.specs.Homes.{count, how_many, is_in, locked, made_by, made_count, tallies, out_of, receives, rights, sends, takes_lock, total, unlocked}
 use Rattle.mb_channel.proofs.Views.{below_total, in_here, none_many, not_true, past_map, size_set, there, total_set}
 
@@ -25,6 +25,9 @@ module _ {T : Type 0} where
 
   pub over_grows : (hs gs : List (Home T)) → Grows hs gs → (k : ℕ) → AreOver hs k → AreOver gs k
   over_grows hs gs grows k is j lt = let a = is j lt in let g = grows j a.0 a.1 in (g.0, g.1, g.2.2 a.2)
+
+  pub led_grows : (hs gs : List (Home T)) → Grows hs gs → length gs ≡ length hs → AreLed hs → AreLed gs
+  led_grows hs gs grows size led j lt = let a = led j (omega arith) in let g = grows j a.0 a.1 in (g.0, g.1, g.2.2 a.2)
 
   pub near_grows : (hs gs : List (Home T)) → Grows hs gs → (k : ℕ) → IsNear hs k → IsNear gs k
   near_grows hs gs grows k is = ⊎_elim (λ e. inl e)
@@ -98,7 +101,8 @@ module _ {T : Type 0} where
   still_told s k id v w hs at grows size same may_add alone shut last over =
       let b = total_set sends s.views id v w at in
       let e : total sends (slice_set s.views id w) ≡ total sends s.views = omega arith in
-      let t = told_same k.homes hs k.mark s.views (slice_set s.views id w) v grows size (λ q. e ∙ q) (k.told id v at) in (
+      let t = told_same k.homes hs k.mark s.views (slice_set s.views id w) v grows size (λ q. e ∙ q)
+      (k.told id v at) in (
         λ j u ne at'. told_same k.homes hs k.mark s.views (slice_set s.views id w) u grows size (λ q. e ∙ q)
             (k.told j u at'),
         record {
@@ -113,19 +117,20 @@ module _ {T : Type 0} where
   -- a step of one that counts for an end. `mine`: its new view fits
   pub moved : (s : State (Homes T) (Knows T)) (k : Keeps s) (id : ℕ) (v w : Knows T) → get_elem? s.views id ≡ some v
       → 0 < v.rights → w.ended ≡ v.ended
-      → (hs : List (Home T)) (new : List (Made T)) (mark : ℕ) → Grows k.homes hs → Agrees hs new → Same k.all new id
-      → ((f : ℕ → ℕ) → count f w + made_count f k.all ≡ count f v + made_count f new)
+      → (hs : List (Home T)) (new : List (Made T)) (mark : ℕ) → Grows k.homes hs → AreLed hs → Agrees hs new
+      → Same k.all new id → ((f : ℕ → ℕ) → count f w + made_count f k.all ≡ count f v + made_count f new)
       → ((m : ℕ) (h : Home T) → get_elem? hs m ≡ some h → out_of h + is_in m v ≡ total (is_in m) s.views + is_in m w)
       → Fits hs new (slice_set s.views id w) id w → AllFitEnd s k id w hs mark
       → (words : List ℕ) (homes : List (maybe.Option (Homes T)))
       → (IsFree record { words = words; homes = homes; views = slice_set s.views id w } hs mark
       ⊎ IsHeld record { words = words; homes = homes; views = slice_set s.views id w } hs mark)
       → Keeps record { words = words; homes = homes; views = slice_set s.views id w }
-  moved s k id v w at part past hs new mark grows agrees same weight busy mine tells words homes lock = record {
+  moved s k id v w at part past hs new mark grows leads agrees same weight busy mine tells words homes lock = record {
     homes = hs;
     all = new;
     mark = mark;
     lock = lock;
+    leads = leads;
     agrees = agrees;
     balance = λ f. (let t = total_set (count f) s.views id v w at in let b = k.balance f in let d = weight f
         in omega arith);
@@ -218,7 +223,7 @@ module _ {T : Type 0} where
         w,
         takes 0 l,
         ap (λ x. get_elem? x 0) free.2,
-        moved s k id v w at part refl k.homes k.all k.mark (grows_same k.homes) k.agrees (λ n _. refl)
+        moved s k id v w at part refl k.homes k.all k.mark (grows_same k.homes) k.leads k.agrees (λ n _. refl)
             (λ g. omega arith) (λ m h e. busy_same s k m (is_in m v) h e)
             record {
               named = f.named;
@@ -263,7 +268,7 @@ module _ {T : Type 0} where
 
   -- what an end does that gives the lock back. All segments are hs now, w is its view, and `new` are the visits
   abbrev pub Lawful : (s : State (Homes T) (Knows T)) → Keeps s → ℕ → Knows T → List (Home T) → Knows T → Type 0
-  Lawful s k id v hs w = (new : List (Made T)) × Grows k.homes hs × Agrees hs new × Same k.all new id
+  Lawful s k id v hs w = (new : List (Made T)) × Grows k.homes hs × AreLed hs × Agrees hs new × Same k.all new id
       × ((g : ℕ → ℕ) → count g w + made_count g k.all ≡ count g v + made_count g new)
       × ((m : ℕ) (h : Home T) → get_elem? hs m ≡ some h → out_of h + is_in m v ≡ total (is_in m) s.views + is_in m w)
       × Fits hs new (slice_set s.views id w) id w × AllFitEnd s k id w hs k.mark
@@ -289,7 +294,7 @@ module _ {T : Type 0} where
         w,
         gives,
         tt,
-        moved s k id me.0 w at part past hs r.0 k.mark r.1 r.2 r.3 r.4 r.5 r.6 r.7
+        moved s k id me.0 w at part past hs r.0 k.mark r.1 r.2 r.3 r.4 r.5 r.6 r.7 r.8
             (slice_set s.words 0 0) (homes_after s.homes me.1 gives)
             (inl (
               y,

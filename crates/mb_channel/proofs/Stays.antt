@@ -9,9 +9,9 @@ use Rattle.atomic_table.specs.Table.{State}
 use Rattle.atomic_table.proofs.Lists.{at_set, set_else, set_here}
 use Rattle.mb_segment.specs.Vocabulary.{hub_view, is_over}
 use Rattle.mb_channel.specs.Types.{Account, Arc, Global, Home, Homes, Knows, Pass, Segment, View, Visit}
-use Rattle.mb_channel.specs.Homes.{Agrees, AreOver, At, Falls, Grows, HasIssued, IsDone, IsNear, IsNext, IsOver, IsShare, Keeps, Made, MayGive, Sat, Stands}
+use Rattle.mb_channel.specs.Homes.{Agrees, AreLed, AreOver, At, Falls, Grows, HasIssued, IsDone, IsNear, IsNext, IsOver, IsShare, Keeps, Made, MayGive, Sat, Stands}
 use Rattle.mb_channel.specs.Homes.{came_back, came_to, is_in, left_segment, made_by, made_in, out_of, total, unlocked, went_on}
-use Rattle.mb_channel.proofs.Moves.{ended_stay, grows_same, near_grows, next_grows, over_grows, still_told, unlocks}
+use Rattle.mb_channel.proofs.Moves.{ended_stay, grows_same, led_grows, near_grows, next_grows, over_grows, still_told, unlocks}
 use Rattle.mb_channel.proofs.Views.{below_total, by_other, by_own, in_else, in_here, in_none, in_other, in_own, made_map, size_set, there}
 
 both_are : (a b : Bool) → a && b ≡ true → (a ≡ true) × (b ≡ true)
@@ -134,6 +134,8 @@ module _ {T : Type 0} where
       ) in (
         m ∷ k.all,
         subst (λ l. Grows k.homes l) (sym now) grows,
+        subst (λ l. AreLed l) (sym now) (led_grows k.homes (slice_set k.homes v.at g) grows
+            (size_set k.homes v.at g) k.leads),
         subst (λ l. Agrees l (m ∷ k.all)) (sym now) (agrees_back k.homes k.all v.at h g id a here grows back (rich
             (IsNext k.homes v.at) v.takes v.takes refl a f.takes poor) k.agrees),
         others,
@@ -182,6 +184,8 @@ module _ {T : Type 0} where
       ) in (
         k.all,
         subst (λ l. Grows k.homes l) (sym now) grows,
+        subst (λ l. AreLed l) (sym now) (led_grows k.homes (slice_set k.homes v.at g) grows
+            (size_set k.homes v.at g) k.leads),
         subst (λ l. Agrees l k.all) (sym now) (agrees_set k.homes k.all v.at h g here grows
             (ap (λ (z : View T). z.ends) did.1) k.agrees),
         (λ j _. refl),
@@ -228,6 +232,7 @@ module _ {T : Type 0} where
       let there_ : IsNext hs j = subst (λ l. IsNext l j) (sym is) next in (
         k.all,
         subst (λ l. Grows k.homes l) now (grows_same k.homes),
+        subst (λ l. AreLed l) now k.leads,
         subst (λ l. Agrees l k.all) now k.agrees,
         (λ n _. refl),
         (λ g. omega arith),

@@ -38,6 +38,7 @@ module _ {T : Type 0} where
       record { gone = []; all = sym is; number = sym none_freed; freed = tt },
       λ id v at. ap (λ (z : Knows T). z.holds) (first_is id v at),
     );
+    leads = λ j lt. absurd (omega arith);
     agrees = record { here = λ k h at. absurd (some-ne-none h (sym at)); none_behind = λ k _. refl; turn = tt };
     told = λ id v at. subst (λ (z : Knows T). FitsEnd [] 1 (first_view ∷ []) z) (sym (first_is id v at))
         (knows_nothing [] 1 (first_view ∷ []) first_view refl refl refl refl refl);
@@ -99,6 +100,7 @@ module _ {T : Type 0} where
       ) in
       record {
         all = k.all;
+        leads = k.leads;
         agrees = k.agrees;
         own = (n.1 ∙ ap (λ i. made_by i k.all) (sym n.0), f.falls);
         others = past_map (PastFits k.all s.views) (λ p. (p.visits ≡ made_by p.number k.all) × ((b : ℕ)

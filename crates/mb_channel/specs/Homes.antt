@@ -80,6 +80,10 @@ IsNext hs k = (j : ℕ) → j < k → At hs j IsDone
 abbrev pub AreOver : {T : Type 0} → List (Home T) → ℕ → Type 0
 AreOver hs k = (j : ℕ) → j < k → At hs j IsOver
 
+-- nothing can be sent in any segment but the last
+abbrev pub AreLed : {T : Type 0} → List (Home T) → Type 0
+AreLed hs = (j : ℕ) → suc j < length hs → At hs j IsOver
+
 -- segment k is there, or it may be the next one
 abbrev pub IsNear : {T : Type 0} → List (Home T) → ℕ → Type 0
 IsNear {T} hs k = (k ≡ 0) ⊎ ((j : ℕ) × (suc j ≡ k) × At hs j (λ _. Unit {0}))
@@ -228,6 +232,7 @@ pub record Keeps {T : Type 0} (s : State (Homes T) (Knows T)) : Type 0 where
   pub all : List (Made T)
   pub mark : ℕ
   pub lock : IsFree s homes mark ⊎ IsHeld s homes mark
+  pub leads : AreLed homes
   pub agrees : Agrees homes all
   pub crowd : (k : ℕ) (h : Home T) → get_elem? homes k ≡ some h → out_of h ≡ total (is_in k) s.views
   pub balance : (f : ℕ → ℕ) → total (count f) s.views ≡ made_count f all
@@ -348,13 +353,14 @@ Changes {T} hs gs k P = (h : Home T) × (g : Home T) × (get_elem? hs k ≡ some
 abbrev pub IsNew : {T : Type 0} → Home T → Type 0
 IsNew h = hub_view h.hub ≡ new_hub
 
--- the list, with a new segment more or not
-abbrev pub Longer : {T : Type 0} → List (Home T) → List (Home T) → Type 0
-Longer {T} hs gs = (gs ≡ hs) ⊎ ((h : Home T) × IsNew h × (gs ≡ hs ++ h ∷ []))
+-- the list, with a new segment at place k or not
+abbrev pub Longer : {T : Type 0} → ℕ → List (Home T) → List (Home T) → Type 0
+Longer {T} k hs gs = (gs ≡ hs) ⊎ ((h : Home T) × IsNew h × (gs ≡ hs ++ h ∷ []) × (length hs ≡ k))
 
--- an end that has the lock may leave this list: as it was; or longer, if the end sends and saw that the list is not closed
+-- an end that has the lock may leave this list: as it was; or longer by a segment at its place, if the end sends, saw that
+-- the list is not closed, and was orderly
 abbrev pub MayLeave : {T : Type 0} → Knows T → List (Home T) → Type 0
-MayLeave v hs = (hs ≡ v.before) ⊎ ((0 < v.sends) × (v.may_add ≡ true) × Longer v.before hs)
+MayLeave v hs = (hs ≡ v.before) ⊎ ((0 < v.sends) × (v.may_add ≡ true) × (v.orderly ≡ true) × Longer v.at v.before hs)
 
 -- the pass is of this segment
 abbrev pub IsPassOf : {T : Type 0} → Option (Arc (Segment T Global) Global) → Pass T → Type 0
@@ -371,9 +377,11 @@ IsNone n [] = Unit {0}
 IsNone n (p ∷ ps) = (p.number ≢ n) × IsNone n ps
 
 -- once an end has taken back all others: what each did in which segment is what the hubs know, and nobody else did
--- anything. No two of the ends have the same number. If the last one has left its own segment, no pass is out
+-- anything. No two of the ends have the same number. Nothing could be sent in any segment but the last. If the last end
+-- has left its own, no pass is out
 pub record IsWhole {T : Type 0} (v : Knows T) (hs : List (Home T)) : Type 0 where
   pub all : List (Made T)
+  pub leads : AreLed hs
   pub agrees : Agrees hs all
   pub own : (v.visits ≡ made_by v.number all) × Falls v.at v.visits
   pub others : AllPast (λ p. (p.visits ≡ made_by p.number all) × ((b : ℕ) × Falls b p.visits)) v.ended

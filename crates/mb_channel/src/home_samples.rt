@@ -2,7 +2,7 @@
 //! contracts are the samples.
 ghost use Rattle.std.specs.Prelude.{List, ℕ, [], false, true, ◌∷◌, ◌≡◌};
 ghost use Rattle.mb_channel.specs.HomeSamples.{given_twice, last_of_two, one_take, one_visit};
-ghost use Rattle.mb_channel.specs.Homes.{Agrees, Fits, HasIssued, HasTakenBack, IsDone, IsFreed, IsNew, IsWhole, Stands};
+ghost use Rattle.mb_channel.specs.Homes.{Agrees, Fits, HasIssued, HasTakenBack, IsDone, IsFreed, IsNew, IsOver, IsWhole, Stands};
 ghost use Rattle.mb_channel.specs.Homes.{Made, came_back, first_view, out_of, spent_view};
 ghost use Rattle.mb_channel.specs.LifeSamples.{one_got, one_sent, two_sent};
 ghost use Rattle.mb_channel.specs.Types.{Arc, Global, Home, Homes, Knows, Pass, Segment, View};
@@ -46,13 +46,14 @@ pub fn sample_spent()
 {}
 
 /// The end. Two ends in two segments are admitted. Refused: a pass that is out once the last end has left, an account
-/// in a hub that no end's visits have, and an end that was given back twice.
+/// in a hub that no end's visits have, a second segment behind one that is not over, and an end given back twice.
 pub fn sample_whole()
-    ensures two { (h g : Home ℕ) → came_back h ≡ one_got ∷ two_sent ∷ []
+    ensures two { (h g : Home ℕ) → IsOver h → came_back h ≡ one_got ∷ two_sent ∷ []
         → came_back g ≡ one_sent ∷ [] → out_of h ≡ 0 → out_of g ≡ 0
         → IsWhole last_of_two (h ∷ g ∷ []) }
     ensures out { (h g : Home ℕ) → out_of h ≡ 1 → IsWhole last_of_two (h ∷ g ∷ []) → ⊥ }
     ensures stranger { (h : Home ℕ) → came_back h ≡ two_sent ∷ []
         → IsWhole first_view (h ∷ []) → ⊥ }
+    ensures open_ { (h g : Home ℕ) → (IsOver h → ⊥) → IsWhole last_of_two (h ∷ g ∷ []) → ⊥ }
     ensures twice { (hs : List (Home ℕ)) → IsWhole given_twice hs → ⊥ }
 {}

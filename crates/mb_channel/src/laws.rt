@@ -1,5 +1,5 @@
 //! The laws of a channel. The functions compute nothing: their contracts are the laws.
-ghost use Rattle.std.specs.Prelude.{ℕ, List, Some, length, true, ◌<◌, ◌≡◌};
+ghost use Rattle.std.specs.Prelude.{ℕ, List, Some, length, suc, true, ◌<◌, ◌≡◌};
 ghost use mathlib.Core.Option.{some};
 ghost use lib.ListN.{get_elem?};
 ghost use Rattle.mb_channel.specs.ChannelTheorem.{EachMoment, End, History, Moment, Segment, WholeLife, life};
@@ -62,6 +62,8 @@ pub fn closed_is_true<T: Drop>()
         → get_elem? c.views id ≡ some v → v.shut ≡ true → k.mark ≡ 0 }
     ensures over { (c : ListState T) (k : Keeps c) (id j : ℕ) (v : Knows T)
         → get_elem? c.views id ≡ some v → v.orderly ≡ true → j < v.at
+        → At k.homes j IsClosedOff }
+    ensures leads { (c : ListState T) (k : Keeps c) (j : ℕ) → suc j < length k.homes
         → At k.homes j IsClosedOff }
 {
     mb_segment::laws::over_is_true::<T>();

@@ -86,7 +86,7 @@ impl<T: Drop> List<T> {
         requires homes { HoldsHomes chair.old.me (λ hs. hs ≡ (view_in chair.old).before) }
         ensures list { (chair.new.table_id ≡ chair.old.table_id) × (chair.new.id ≡ chair.old.id) }
         ensures view { view_in chair.new ≡ view_in chair.old }
-        ensures homes { HoldsHomes chair.new.me (Longer (view_in chair.old).before) }
+        ensures homes { HoldsHomes chair.new.me (Longer at (view_in chair.old).before) }
     {
         let homes = chair.slot_mut(&self.table.shared, 0);
         if at < homes.first {
@@ -98,8 +98,9 @@ impl<T: Drop> List<T> {
         }
     }
 
-    /// A sender adds a segment of this many positions at this place, if there is none yet. The error is [`AllocError`] if
-    /// the allocator refuses the memory: then nothing has changed.
+    /// A sender adds a segment of this many positions at this place, if there is none yet. It left each segment before
+    /// only once nothing could be sent there. The error is [`AllocError`] if the allocator refuses the memory: then
+    /// nothing has changed.
     pub fn append(
         &self,
         chair: &mut Chair<T>,
@@ -110,6 +111,8 @@ impl<T: Drop> List<T> {
         requires list { chair.old.table_id ≡ self.now.table.shared.table_id }
         requires ready { IsReady chair.old.me }
         requires sender { 0 < (view_in chair.old).sends }
+        requires here { (view_in chair.old).at ≡ at }
+        requires orderly { (view_in chair.old).orderly ≡ true }
         ensures list { (chair.new.table_id ≡ chair.old.table_id) × (chair.new.id ≡ chair.old.id) }
         ensures answer { IfOk result (λ a. OfAppended a (chair.new.me ≡ chair.old.me)
             (chair.new.me ≡ (saw_closed (view_in chair.old), []))) }

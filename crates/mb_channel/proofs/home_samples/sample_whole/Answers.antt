@@ -5,7 +5,7 @@ use lib.ListN.{get_elem?}
 use Rattle.mb_channel.specs.Types.{Home}
 use Rattle.mb_channel.specs.LifeSamples.{one_got, one_sent, two_sent, visit}
 use Rattle.mb_channel.specs.HomeSamples.{all_visits, last_of_two}
-use Rattle.mb_channel.specs.Homes.{IsNone, IsWhole, Made, came_back, first_view, how_many, made_by, made_in, past_of}
+use Rattle.mb_channel.specs.Homes.{AreLed, IsNone, IsOver, IsWhole, Made, came_back, first_view, how_many, made_by, made_in, past_of}
 use Rattle.mb_channel.proofs.Views.{once_more}
 use Rattle.mb_channel.proofs.home_samples.sample_whole.Goals as goal
 
@@ -40,9 +40,14 @@ once_each n = once_more (past_of last_of_two) n (how_many n last_of_two.ended)
     (how_many n last_of_two.ended) refl (omega arith) (λ _. refl))
     (λ q. ap (λ i. how_many i last_of_two.ended) (sym q))
 
+leads_two : (h g : Home ℕ) → IsOver h → AreLed (h ∷ g ∷ [])
+leads_two h g over zero lt = (h, refl, over)
+leads_two h g over (suc j) lt = absurd (omega (arith, lt))
+
 pub returns-clause-two : goal.returns-clause-two
-returns-clause-two c h g a b out_h out_g = record {
+returns-clause-two c h g over a b out_h out_g = record {
   all = all_visits;
+  leads = leads_two h g over;
   agrees = record {
     here = hubs_know h g a b;
     none_behind = none_behind;
@@ -54,6 +59,10 @@ returns-clause-two c h g a b out_h out_g = record {
   nobody = nobody_else;
   empty = λ _. (out_h, (out_g, tt));
 }
+
+pub returns-clause-open_ : goal.returns-clause-open_
+returns-clause-open_ c h g no_ w = let o = w.leads 0 (omega arith) in
+    no_ (subst (λ x. IsOver x) (sym (some-injective h o.0 o.1)) o.2)
 
 pub returns-clause-twice : goal.returns-clause-twice
 returns-clause-twice c hs w = let o = w.once 1 in absurd (omega (arith, o))
