@@ -92,7 +92,8 @@ module _ {T : Type 0} where
   still_told s k id v w hs at grows size same may_add alone shut last over =
       let b = total_set sends s.views id v w at in
       let e : total sends (slice_set s.views id w) ≡ total sends s.views = omega arith in
-      let t = told_same k.homes hs k.mark s.views (slice_set s.views id w) v grows size (λ q. e ∙ q) (k.told id v at) in (
+      let t = told_same k.homes hs k.mark s.views (slice_set s.views id w) v grows size (λ q. e ∙ q)
+      (k.told id v at) in (
         λ j u ne at'. told_same k.homes hs k.mark s.views (slice_set s.views id w) u grows size (λ q. e ∙ q)
             (k.told j u at'),
         record {

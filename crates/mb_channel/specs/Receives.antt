@@ -1,5 +1,6 @@
 -- What a receive came to.
-use Rattle.std.specs.Prelude.{◌≡◌, Some}
+use Rattle.std.specs.Prelude.{◌≡◌, Some, is_some, false}
+use Rattle.mb_channel.specs.Ends.{view_of}
 use Rattle.mb_segment.specs.Moves.{SawAllTaken}
 use Rattle.mb_channel.specs.declared.end.End.{End}
 use Rattle.mb_channel.specs.declared.inside.Inside.{Inside}
@@ -13,6 +14,10 @@ SawNothing i = SawAllTaken i.pass.seat.me.0
 -- so in the segment where the end is
 abbrev pub SawEmpty : {T : Type 0} → End T → Type 0
 SawEmpty {T} e = (i : Inside T) × (e.inside ≡ Some i) × SawNothing i
+
+-- it is behind the last segment that there was when it looked
+abbrev pub FoundNone : {T : Type 0} → End T → Type 0
+FoundNone e = (is_some e.inside ≡ false) × ((view_of e).found ≡ Some (view_of e).at)
 
 -- a value was received, none was there, or that is not known
 abbrev pub OfTried : {T : Type 0} → Tried T → (T → Type 0) → Type 0 → Type 0 → Type 0

@@ -33,3 +33,7 @@ returns-clause-shut g c s k id v at is = (k.told id v at).shut is
 pub returns-clause-over : goal.returns-clause-over
 returns-clause-over g c s k id j v at is lt = let o = (k.told id v at).over is j lt in
     (o.0, o.1, λ s k n view. c.over_is_true.ensures.over_all s k n _ view o.2)
+
+pub returns-clause-behind : goal.returns-clause-behind
+returns-clause-behind g c s k id j v at is lt = let d = (k.fits id v at).takes is j lt in
+    (d.0, d.1, λ s k n view. let o = c.over_is_true.ensures.over s k n _ view d.2 in (o.0, o.2))
