@@ -120,6 +120,7 @@ first_view = record {
   alone = false;
   shut = false;
   last = None;
+  found = None;
 }
 
 abbrev pub spent_view : {T : Type 0} → Knows T

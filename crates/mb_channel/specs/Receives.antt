@@ -1,5 +1,5 @@
 -- What a receive came to.
-use Rattle.std.specs.Prelude.{ℕ, ◌≡◌, ◌<◌, ◌≤◌, ◌⊎◌, Option, None, Some}
+use Rattle.std.specs.Prelude.{ℕ, ◌≡◌, ◌<◌, ◌≤◌, ◌⊎◌, Option, None, Some, is_some, false}
 use Rattle.mb_segment.specs.Moves.{SawAllTaken, found_empty}
 use Rattle.mb_channel.specs.declared.end.End.{End}
 use Rattle.mb_channel.specs.declared.inside.Inside.{Inside}
@@ -29,6 +29,10 @@ abbrev pub SawEmpty : {T : Type 0} → End T → End T → Type 0
 SawEmpty {T} old new = (i : Inside T) × (new.inside ≡ Some i) × SawAllTaken i.pass.seat.me.0
     × ((((view_of old).at < (view_of new).at) × (0 < found_in i))
     ⊎ (((view_of old).at ≡ (view_of new).at) × (found_there old.inside < found_in i)))
+
+-- it is behind the last segment that there was when it looked
+abbrev pub FoundNone : {T : Type 0} → End T → Type 0
+FoundNone e = (is_some e.inside ≡ false) × ((view_of e).found ≡ Some (view_of e).at)
 
 -- a value was received, none was there, or that is not known
 abbrev pub OfTried : {T : Type 0} → Tried T → (T → Type 0) → Type 0 → Type 0 → Type 0

@@ -50,5 +50,9 @@ closing st m r n = (n.1 ≡ m.1) × (n.0 ≡ record m.0 { may_add = false; shut 
 abbrev pub told_last : {T : Type 0} → ℕ → Knows T → Knows T
 told_last n v = record v { last = Some n }
 
+-- it found just n segments
+abbrev pub found_none : {T : Type 0} → ℕ → Knows T → Knows T
+found_none n v = record v { found = Some n }
+
 abbrev pub IsTold : {T : Type 0} → ℕ → Knows T → Knows T → Type 0
 IsTold n v w = (w ≡ told_last n (saw_closed v)) ⊎ ((w ≡ told_last n (saw_none v)) × (v.sends ≡ 0))

@@ -29,10 +29,10 @@ fn size_at(at: usize) -> u32 {
 }
 
 impl<T: Drop> Channel<T> {
-    ghost use Rattle.std.specs.Prelude.{◌≡◌, ◌<◌, true, false, is_some, IfErr};
+    ghost use Rattle.std.specs.Prelude.{◌≡◌, ◌<◌, true, false, is_some, IfErr, IfOk};
     ghost use Rattle.mb_channel.specs.Answers.{IfClosed};
+    ghost use Rattle.mb_channel.specs.Receives.{FoundNone, IsLater};
     ghost use Rattle.mb_channel.specs.Ends.{IsBehind, IsEndOf, IsOver, IsSame, SawOver, got_by, sent_by, view_of};
-    ghost use Rattle.mb_channel.specs.Receives.{IsLater};
 
     /// Adds a segment where the end is, if there is none yet.
     fn append(&self, end: &mut End<T>) -> Result<(), Refused>
@@ -67,6 +67,7 @@ impl<T: Drop> Channel<T> {
         ensures sent { sent_by end.new ≡ sent_by end.old }
         ensures got { got_by end.new ≡ got_by end.old }
         ensures takes { takes ≡ true → (view_of end.new).takes ≡ true }
+        ensures none { IfOk result (λ there. there ≡ false → FoundNone end.new) }
         ensures closed { IfErr result (λ why. IfClosed why (IsBehind end.new)) }
     {
         let at = end.at;
@@ -95,7 +96,7 @@ impl<T: Drop> Channel<T> {
     }
 
     /// The same, and if there is none yet, a sender adds one.
-    fn come(&self, end: &mut End<T>, takes: bool) -> Result<(), Refused>
+    fn come(&self, end: &mut End<T>, takes: bool) -> Result<bool, Refused>
         requires channel { IsEndOf self.now end.old }
         requires outside { is_some end.old.inside ≡ false }
         requires side { takes ≡ true → (view_of end.old).takes ≡ true }
@@ -105,17 +106,17 @@ impl<T: Drop> Channel<T> {
         ensures sent { sent_by end.new ≡ sent_by end.old }
         ensures got { got_by end.new ≡ got_by end.old }
         ensures takes { takes ≡ true → (view_of end.new).takes ≡ true }
+        ensures none { IfOk result (λ there. there ≡ false → FoundNone end.new) }
         ensures behind { takes ≡ true → IfErr result (λ why. IfClosed why (IsBehind end.new)) }
         ensures shut { takes ≡ false
             → IfErr result (λ why. IfClosed why ((view_of end.new).shut ≡ true)) }
     {
-        if self.reach(end, takes)? {
-            Ok(())
-        } else if takes {
-            Ok(())
-        } else {
-            self.append(end)
+        let there = self.reach(end, takes)?;
+        if there || takes {
+            return Ok(there);
         }
+        self.append(end)?;
+        Ok(true)
     }
 
     /// Tries to leave the segment where the end is, which is over. An end that is in none has left.
@@ -157,8 +158,8 @@ impl<T: Drop> Channel<T> {
     }
 
     /// Goes on: leaves the segment where the end is, or comes to the next one. It is a try, which may change nothing if
-    /// the lock is taken.
-    pub(crate) fn go_on(&self, end: &mut End<T>, takes: bool) -> Result<(), Refused>
+    /// the lock is taken. It is `false` for a receiver if the next one is not there yet.
+    pub(crate) fn go_on(&self, end: &mut End<T>, takes: bool) -> Result<bool, Refused>
         requires channel { IsEndOf self.now end.old }
         requires side { takes ≡ true → (view_of end.old).takes ≡ true }
         requires sender { takes ≡ false → 0 < (view_of end.old).sends }
@@ -169,13 +170,14 @@ impl<T: Drop> Channel<T> {
         ensures sent { sent_by end.new ≡ sent_by end.old }
         ensures got { got_by end.new ≡ got_by end.old }
         ensures takes { takes ≡ true → (view_of end.new).takes ≡ true }
+        ensures none { IfOk result (λ there. there ≡ false → FoundNone end.new) }
         ensures behind { takes ≡ true → IfErr result (λ why. IfClosed why (IsBehind end.new)) }
         ensures shut { takes ≡ false
             → IfErr result (λ why. IfClosed why ((view_of end.new).shut ≡ true)) }
     {
         if end.inside.is_some() {
             self.leave(end);
-            Ok(())
+            Ok(true)
         } else {
             self.come(end, takes)
         }

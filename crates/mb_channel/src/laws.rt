@@ -48,7 +48,7 @@ pub fn lives_have_the_logs<T: Drop>()
 
 /// Of each moment: where an end was told that there are so many segments, there are, and no more will come, for the list
 /// is closed or no sender is left. Nothing can be sent in any of them. If the end is a receiver behind the last, nothing
-/// waits there either. Each end stands behind segments that are over.
+/// waits there either. Each end stands behind segments that are over, and behind a receiver nothing waits.
 pub fn closed_is_true<T: Drop>()
     ensures last { (c : ListState T) (k : Keeps c) (id n : ℕ) (v : Knows T)
         → get_elem? c.views id ≡ some v → v.last ≡ Some n
@@ -65,6 +65,9 @@ pub fn closed_is_true<T: Drop>()
         → At k.homes j IsClosedOff }
     ensures leads { (c : ListState T) (k : Keeps c) (j : ℕ) → suc j < length k.homes
         → At k.homes j IsClosedOff }
+    ensures behind { (c : ListState T) (k : Keeps c) (id j : ℕ) (v : Knows T)
+        → get_elem? c.views id ≡ some v → v.takes ≡ true → j < v.at
+        → At k.homes j IsFinished }
 {
     mb_segment::laws::over_is_true::<T>();
 }

@@ -37,3 +37,7 @@ returns-clause-over g c s k id j v at is lt = let o = (k.told id v at).over is j
 pub returns-clause-leads : goal.returns-clause-leads
 returns-clause-leads g c s k j lt = let o = k.leads j lt in
     (o.0, o.1, λ s k n view. c.over_is_true.ensures.over_all s k n _ view o.2)
+
+pub returns-clause-behind : goal.returns-clause-behind
+returns-clause-behind g c s k id j v at is lt = let d = (k.fits id v at).takes is j lt in
+    (d.0, d.1, λ s k n view. let o = c.over_is_true.ensures.over s k n _ view d.2 in (o.0, o.2))

@@ -1,4 +1,4 @@
-use Rattle.std.proofs.Common.{sym, ap, ◌∙◌, is_some}
+use Rattle.std.proofs.Common.{ap, ◌∙◌, is_some}
 use Rattle.mb_channel.specs.Inside.{share_in}
 use Rattle.mb_channel.proofs.channel.Channel.outside.Goals as goal
 
