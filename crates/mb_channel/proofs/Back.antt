@@ -1,30 +1,35 @@
 -- Ends are made from one another and given back.
 use Rattle.std.proofs.Common.{ℕ, Bool, true, false, true≢false, List, [], length, sym, refl, ap, subst, inl, inr, ⊎_elim, arith}
 use Rattle.std.proofs.Common.{◌≡◌, ◌≢◌, ◌<◌, ◌≤◌, ◌⊎◌, ◌||◌, ◌∷◌, ◌++◌, ◌∙◌}
-use Rattle.std.specs.Prelude.{None, is_some, slice_set}
+use Rattle.std.specs.Prelude.{None, Option, Some, is_some, slice_set}
 use mathlib.Core.Option.{some}
 use lib.ListN.{get_elem?}
 use Rattle.atomic_table.specs.Table.{Splits, Joins}
 use Rattle.atomic_table.proofs.Lists.{at_set, set_else, set_here, at_longer}
 use Rattle.mb_channel.specs.Types.{Home, Knows, Past}
 use Rattle.mb_channel.specs.Homes.{AllPast, Fits, IsSpent, Keeps, Made, PastFits, FitsEnd}
-use Rattle.mb_channel.specs.Homes.{both, count, is_in, made_by, newborn_view, past_of}
-use Rattle.mb_channel.specs.Homes.{receives, rights, sends, spent_view, splits_off, tallies, total}
+use Rattle.mb_channel.specs.Homes.{both, count, how_many, is_in, made_by, newborn_view, past_of}
+use Rattle.mb_channel.specs.Homes.{receives, rights, sends, spent_view, splits_off, tallies, told_or, total}
 use Rattle.mb_channel.proofs.Members.{lock_views}
-use Rattle.mb_channel.proofs.Moves.{ended_stay, has_part, not_spent, told_same}
-use Rattle.mb_channel.proofs.Views.{in_none, past_append, past_count_append, past_map, size_set, size_snoc, snoc_cases, there, total_set, total_snoc}
+use Rattle.mb_channel.proofs.Moves.{ended_stay, grows_same, has_part, not_back, not_spent, told_same}
+use Rattle.mb_channel.proofs.Views.{all_zero, how_many_append, in_none, once_more, past_append, past_count_append, past_map, size_set, size_snoc, snoc_cases, there, total_set, total_snoc}
 
 one_is : (a b : Bool) → a || b ≡ true → (a ≡ true) ⊎ (b ≡ true)
 one_is true b e = inl refl
 one_is false b e = inr e
 
+told_is : (a b : Option ℕ) (n : ℕ) → told_or a b ≡ Some n → (a ≡ Some n) ⊎ (b ≡ Some n)
+told_is None b n e = inr e
+told_is (Some m) b n e = inl e
+
 module _ {T : Type 0} where
   pub knows_nothing : (hs : List (Home T)) (mark : ℕ) (views : List (Knows T)) (u : Knows T) → u.may_add ≡ false
-      → u.alone ≡ false → u.shut ≡ false → u.last ≡ None → FitsEnd hs mark views u
-  knows_nothing hs mark views u a b c d = record {
+      → u.alone ≡ false → u.shut ≡ false → u.last ≡ None → u.at ≡ 0 → FitsEnd hs mark views u
+  knows_nothing hs mark views u a b c d here = record {
     may_add = λ q. absurd (true≢false (sym q ∙ a));
     alone = λ q. absurd (true≢false (sym q ∙ b));
     shut = λ q. absurd (true≢false (sym q ∙ c));
+    over = λ q j lt. absurd (omega arith);
     last = λ n q. absurd (true≢false (ap is_some (sym q ∙ d)));
   }
 
@@ -86,7 +91,8 @@ module _ {T : Type 0} where
       let words : tallies s.views k.mark ≡ tallies (one ++ new ∷ []) k.mark =
       (λ i. rights' i ∷ sends' i ∷ receives' i ∷ k.mark ∷ []) in
       let tells : (u : Knows T) → FitsEnd k.homes k.mark s.views u → FitsEnd k.homes k.mark (one ++ new ∷ []) u =
-      λ u t. told_same k.homes k.homes k.mark s.views (one ++ new ∷ []) u refl (λ q. sym sends' ∙ q) t in
+      λ u t. told_same k.homes k.homes k.mark s.views (one ++ new ∷ []) u (grows_same k.homes) refl
+      (λ q. sym sends' ∙ q) t in
       record {
         homes = k.homes;
         all = k.all;
@@ -105,6 +111,7 @@ module _ {T : Type 0} where
             (sym t.1))))
             (snoc_cases one new u j e))
             k.lock;
+        leads = k.leads;
         agrees = k.agrees;
         told = λ j u e. ⊎_elim
             (λ there_. ⊎_elim
@@ -113,6 +120,7 @@ module _ {T : Type 0} where
               may_add = x.may_add;
               alone = x.alone;
               shut = x.shut;
+              over = x.over;
               last = x.last;
             }))
             (λ (t : (j ≢ id) × (get_elem? s.views j ≡ some u)). tells u (k.told j u t.1))
@@ -122,11 +130,14 @@ module _ {T : Type 0} where
               may_add = λ q. absurd (true≢false (sym q));
               alone = x.alone;
               shut = x.shut;
+              over = x.over;
               last = x.last;
             }))
             (snoc_cases one new u j e);
         balance = λ g. (let a = total_set (count g) s.views id v w at in let b = total_snoc (count g) one new in
             let r = k.balance g in omega arith);
+        once = λ n. (let a = total_set (λ u. how_many n u.ended) s.views id v w at in
+            let b = total_snoc (λ u. how_many n u.ended) one new in let r = k.once n in omega arith);
         crowd = λ m h e. (let a = total_set (is_in m) s.views id v w at in let b = total_snoc (is_in m) one new in
             let r = k.crowd m h e in omega arith);
         fresh = λ n long. (let m = size_snoc one new in k.fresh n (omega arith));
@@ -193,7 +204,7 @@ module _ {T : Type 0} where
       let words : tallies s.views k.mark ≡ tallies two k.mark =
       (λ i. rights' i ∷ sends' i ∷ receives' i ∷ k.mark ∷ []) in
       let tells : (u : Knows T) → FitsEnd k.homes k.mark s.views u → FitsEnd k.homes k.mark two u =
-      λ u t. told_same k.homes k.homes k.mark s.views two u refl (λ q. sym sends' ∙ q) t in
+      λ u t. told_same k.homes k.homes k.mark s.views two u (grows_same k.homes) refl (λ q. sym sends' ∙ q) t in
       record {
         homes = k.homes;
         all = k.all;
@@ -214,17 +225,19 @@ module _ {T : Type 0} where
             (at_set s.views id j (both v w) u t.1))
             (at_set one other j spent_view u e))
             k.lock;
+        leads = k.leads;
         agrees = k.agrees;
         told = λ j u e. ⊎_elim
             (λ (t : (j ≡ other) × (spent_view ≡ u)). subst (λ (z : Knows T). FitsEnd k.homes k.mark two z) t.1
-            (knows_nothing k.homes k.mark two spent_view refl refl refl refl))
+            (knows_nothing k.homes k.mark two spent_view refl refl refl refl refl))
             (λ (t : (j ≢ other) × (get_elem? one j ≡ some u)). ⊎_elim
             (λ (q : (j ≡ id) × (both v w ≡ u)). subst (λ (z : Knows T). FitsEnd k.homes k.mark two z) q.1
             (let x = tells v (k.told id v at) in let y = tells w (k.told other w was) in record {
               may_add = x.may_add;
               alone = λ is. ⊎_elim x.alone y.alone (one_is v.alone w.alone is);
               shut = λ is. ⊎_elim x.shut y.shut (one_is v.shut w.shut is);
-              last = x.last;
+              over = x.over;
+              last = λ n is. ⊎_elim (x.last n) (y.last n) (told_is v.last w.last n is);
             }))
             (λ (q : (j ≢ id) × (get_elem? s.views j ≡ some u)). tells u (k.told j u q.1))
             (at_set s.views id j (both v w) u t.1))
@@ -233,6 +246,15 @@ module _ {T : Type 0} where
             let a = total_set (count m) s.views id v (both v w) at in let b = total_set
             (count m) one other w spent_view at2 in
             let e = past_count_append m v.ended (past_of w ∷ w.ended) in let r = k.balance m in omega arith
+            );
+        once = λ n. (
+            let a = total_set (λ u. how_many n u.ended) s.views id v (both v w) at in
+            let b = total_set (λ u. how_many n u.ended) one other w spent_view at2 in
+            let e = how_many_append n v.ended (past_of w ∷ w.ended) in
+            once_more (past_of w) n (total (λ u. how_many n u.ended) s.views) (total (λ u. how_many n u.ended) two)
+            (omega arith) (k.once n) (λ q. all_zero (λ u. how_many n u.ended) s.views
+            (λ j u at'. ap (λ i. how_many i u.ended) (sym q ∙ (g.named live').0)
+            ∙ not_back s k other w was part' j u at'))
             );
         crowd = λ m h e. (
             let a = total_set (is_in m) s.views id v (both v w) at in
@@ -249,7 +271,7 @@ module _ {T : Type 0} where
               inside = λ l. absurd (true≢false (sym l));
               takes = λ _ j lt. absurd (omega arith);
               newborn = λ _. (refl, refl, refl, λ p. absurd (omega arith));
-              idle = λ _. (refl, refl);
+              idle = λ _. refl;
               ended = tt;
             })
             (λ (t : (j ≢ other) × (get_elem? one j ≡ some u)). ⊎_elim

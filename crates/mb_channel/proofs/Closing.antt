@@ -7,12 +7,12 @@ use lib.ListN.{get_elem?}
 use native.Mathlib.Decide.{ℕ_discrete}
 use Rattle.atomic_table.specs.Table.{State, Act, keeps, step, stepped, Allows, Valid, carried_after}
 use Rattle.mb_channel.specs.Types.{Home, Homes, Knows}
-use Rattle.mb_channel.specs.Homes.{Agrees, Grows, IsIn, IsNear, IsNext, IsShut, Keeps, MayGive, Sat, Stands}
+use Rattle.mb_channel.specs.Homes.{Agrees, AreLed, AreOver, Grows, IsIn, IsNear, IsNext, IsShut, Keeps, MayGive, Sat, Stands}
 use Rattle.mb_channel.specs.Homes.{is_in, sends, tallies, total, unlocked}
 use Rattle.mb_channel.specs.Tallies.{closing, saw_closed, saw_none, sees_mark, sees_senders, told_last}
 use Rattle.mb_channel.proofs.Members.{lock_view, senders_word, mark_word, set_same, tallies_stay, unchanged}
 use Rattle.mb_channel.proofs.Moves.{AllFitEnd, busy_same, ended_stay, grows_same, has_part, moved, tallies_set, told_same, unlocks}
-use Rattle.mb_channel.proofs.Views.{there, total_set}
+use Rattle.mb_channel.proofs.Views.{below_total, there, total_set}
 
 some_number : (n : ℕ) → n ≢ 0 → 0 < n
 some_number zero ne = absurd (ne refl)
@@ -36,7 +36,7 @@ module _ {T : Type 0} where
       let w = noticed a b c v in
       let f = k.fits id v at in
       let part = has_part k.homes k.all s.views id v f live in
-      moved s k id v w at part k.homes k.all mark (grows_same k.homes) k.agrees (λ n _. refl)
+      moved s k id v w at part refl k.homes k.all mark (grows_same k.homes) k.leads k.agrees (λ n _. refl)
       (λ g. omega arith) (λ m h e. busy_same s k m (is_in m v) h e)
       record {
         named = f.named;
@@ -67,22 +67,24 @@ module _ {T : Type 0} where
       go (yes e) = let v = me.0 in let t = k.told id v at in let w = saw_none v in
           let gone : total sends s.views ≡ 0 = sym (senders_word s k) ∙ e in
           let b = total_set sends s.views id v w at in
-          let now : total sends (slice_set s.views id w) ≡ 0 = omega arith in (
+          let now : total sends (slice_set s.views id w) ≡ 0 = omega arith in
+          let mine = below_total sends s.views id v at in (
             w,
             keeps,
             tt,
             notices s k id v v.may_add true v.shut (slice_set s.words 2 (slice_index s.words 2)) k.mark at live
                 (loaded s k id 2 v w at refl refl refl) (
-                  (λ j u ne at'. told_same k.homes k.homes k.mark s.views (slice_set s.views id w) u refl (λ _. now)
-                      (k.told j u at')),
+                  (λ j u ne at'. told_same k.homes k.homes k.mark s.views (slice_set s.views id w) u
+                      (grows_same k.homes) refl (λ _. now) (k.told j u at')),
                   record {
                     may_add = t.may_add;
                     alone = λ _. now;
                     shut = t.shut;
-                    last = λ n q. ((t.last n q).0, inr now);
+                    over = t.over;
+                    last = λ n q. let x = t.last n q in (x.0, inr now, x.2);
                   },
                 ),
-            (refl, (λ _. refl), λ ne. absurd (ne e)),
+            (refl, (λ _. (refl, omega arith)), λ ne. absurd (ne e)),
           )
       go (no ne) = (me.0, keeps, tt, unchanged s k id 2 me.0 at, (refl, (λ e. absurd (ne e)), λ _. refl))
 
@@ -95,10 +97,11 @@ module _ {T : Type 0} where
       let w = noticed a v.alone c v in
       let b = total_set sends s.views id v w at in
       let same : total sends (slice_set s.views id w) ≡ total sends s.views = omega arith in
-      let x = told_same k.homes k.homes k.mark s.views (slice_set s.views id w) v refl (λ q. same ∙ q) t in (
-        (λ j u ne at'. told_same k.homes k.homes k.mark s.views (slice_set s.views id w) u refl (λ q. same ∙ q)
-            (k.told j u at')),
-        record { may_add = may_add; alone = x.alone; shut = shut; last = x.last },
+      let x = told_same k.homes k.homes k.mark s.views (slice_set s.views id w) v (grows_same k.homes) refl
+      (λ q. same ∙ q) t in (
+        (λ j u ne at'. told_same k.homes k.homes k.mark s.views (slice_set s.views id w) u (grows_same k.homes) refl
+            (λ q. same ∙ q) (k.told j u at')),
+        record { may_add = may_add; alone = x.alone; shut = shut; over = x.over; last = x.last },
       )
 
   pub sees_marked : (slots id : ℕ) (me : Sat T) → me.0.live ≡ true
@@ -154,13 +157,15 @@ module _ {T : Type 0} where
                 may_add = λ q. absurd (ne (one_holds s k j id u v at' at (x.may_add q).0 holds));
                 alone = λ q. same ∙ x.alone q;
                 shut = λ _. refl;
-                last = λ n q. ((x.last n q).0, inl refl);
+                over = x.over;
+                last = λ n q. let y = x.last n q in (y.0, inl refl, y.2);
               }),
               record {
                 may_add = λ q. absurd (true≢false (sym q));
                 alone = λ q. same ∙ t.alone q;
                 shut = λ _. refl;
-                last = λ n q. ((t.last n q).0, inl refl);
+                over = t.over;
+                last = λ n q. let y = t.last n q in (y.0, inl refl, y.2);
               },
             ),
         (refl, refl),
@@ -169,9 +174,10 @@ module _ {T : Type 0} where
   -- it gives the lock back, and is told
   pub unlocks_told : (n slots id : ℕ) (me : Sat T) (y : Homes T) (hs : List (Home T)) → Stands hs y
       → me.1 ≡ (0, y) ∷ [] → me.0.live ≡ true → me.0.holds ≡ true → hs ≡ me.0.before → length me.0.before ≡ n
-      → (me.0.shut ≡ true) ⊎ (me.0.alone ≡ true) → MayGive (told_last n) slots id me
-  unlocks_told n slots id me y hs stands carried live holds is size seen = unlocks
-      (told_last n) slots id me y hs stands carried live holds refl refl refl refl
+      → (me.0.shut ≡ true) ⊎ (me.0.alone ≡ true) → (me.0.at ≡ n) × (me.0.orderly ≡ true)
+      → MayGive (told_last n) slots id me
+  unlocks_told n slots id me y hs stands carried live holds is size seen here = unlocks
+      (told_last n) slots id me y hs stands carried live holds refl refl refl refl refl
       (λ s k at part before.
       let v = me.0 in
       let f = k.fits id v at in
@@ -180,10 +186,13 @@ module _ {T : Type 0} where
       let b = total_set sends s.views id v w at in
       let same : total sends (slice_set s.views id w) ≡ total sends s.views = omega arith in
       let long : length hs ≡ length k.homes = ap length (sym now) in
-      let t = told_same k.homes hs k.mark s.views (slice_set s.views id w) v long (λ q. same ∙ q) (k.told id v at) in
+      let grows : Grows k.homes hs = subst (λ l. Grows k.homes l) now (grows_same k.homes) in
+      let t = told_same k.homes hs k.mark s.views (slice_set s.views id w) v grows long (λ q. same ∙ q)
+      (k.told id v at) in
       let never : IsShut k.mark (slice_set s.views id w) = ⊎_elim (λ q. inl (t.shut q)) (λ q. inr (t.alone q)) seen in (
         k.all,
-        subst (λ l. Grows k.homes l) now (grows_same k.homes),
+        grows,
+        subst (λ l. AreLed l) now k.leads,
         subst (λ l. Agrees l k.all) now k.agrees,
         (λ j _. refl),
         (λ g. omega arith),
@@ -199,13 +208,18 @@ module _ {T : Type 0} where
           ended = ended_stay s k id v w at part k.all (λ j _. refl);
         },
         (
-          (λ j u ne at'. told_same k.homes hs k.mark s.views (slice_set s.views id w) u long (λ q. same ∙ q)
+          (λ j u ne at'. told_same k.homes hs k.mark s.views (slice_set s.views id w) u grows long (λ q. same ∙ q)
               (k.told j u at')),
           record {
             may_add = λ q. absurd (true≢false (sym q));
             alone = t.alone;
             shut = t.shut;
-            last = λ m q. (ap length is ∙ size ∙ some_is n m q, never);
+            over = t.over;
+            last = λ m q. (
+              ap length is ∙ size ∙ some_is n m q,
+              never,
+              subst (λ i. AreOver hs i) (here.0 ∙ some_is n m q) (t.over here.1),
+            );
           },
         ),
       ))

@@ -100,6 +100,14 @@ module _ {T : Type 0} where
       let n = length-append s.gone l.list.items in
       let e = ap length s.all in omega arith
 
+  -- how many segments there ever were
+  pub all_long : (hs : List (Home T)) (l : Homes T) (k : ℕ) → Stands hs l → l.first ≤ k
+      → k - l.first ≡ length l.list.items → length hs ≡ k
+  all_long hs l k s le long =
+      let number = s.number in
+      let n = length-append s.gone l.list.items in
+      let e = ap length s.all in omega arith
+
   -- ---- the list changes
   stands_set : (hs : List (Home T)) (l m : Homes T) (k : ℕ) (g : Home T) → Stands hs l → l.first ≤ k
       → m.list.items ≡ slice_set l.list.items (k - l.first) g → m.first ≡ l.first → Stands (slice_set hs k g) m
@@ -148,10 +156,12 @@ module _ {T : Type 0} where
     freed = all_snoc IsFreed s.gone h s.freed done;
   }
 
-  pub longer_of : {E : Type 0} (r : Result (Unit {0}) E) (hs : List (Home T)) (l m : Homes T) → Stands hs l
+  pub longer_of : {E : Type 0} (r : Result (Unit {0}) E) (n : ℕ) (hs : List (Home T)) (l m : Homes T) → Stands hs l
+      → length hs ≡ n
       → IfOk r (λ _. (h : Home T) × IsNew h × (m.list.items ≡ l.list.items ++ h ∷ []))
       → OnErr r (m.list.items ≡ l.list.items) → m.first ≡ l.first
-      → (gs : List (Home T)) × Stands gs m × Longer hs gs
-  longer_of (Ok u) hs l m s more same first =
-      (hs ++ more.0 ∷ [], stands_more hs l m more.0 s more.2 first, inr (more.0, more.1, refl))
-  longer_of (Err e) hs l m s more same first = (hs, stands_same hs l m s same first, Rattle.std.proofs.Common.inl refl)
+      → (gs : List (Home T)) × Stands gs m × Longer n hs gs
+  longer_of (Ok u) n hs l m s long more same first =
+      (hs ++ more.0 ∷ [], stands_more hs l m more.0 s more.2 first, inr (more.0, more.1, refl, long))
+  longer_of (Err e) n hs l m s long more same first =
+      (hs, stands_same hs l m s same first, Rattle.std.proofs.Common.inl refl)

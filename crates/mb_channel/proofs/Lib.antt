@@ -13,6 +13,7 @@ mod Members
 mod Moves
 mod Places
 mod Rests
+mod Since
 mod Stays
 mod Theorems
 mod Turns

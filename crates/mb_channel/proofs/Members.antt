@@ -1,6 +1,6 @@
 -- Ends are numbered, and the numbers of ends, senders and receivers change.
 use Rattle.std.proofs.Common.{ℕ, zero, suc, Bool, true, false, true≢false, List, [], nat_eq, sym, refl, ap, subst, inl, inr, ⊎_elim, arith, eqb-true}
-use Rattle.std.proofs.Common.{◌≡◌, ◌≢◌, ◌+◌, ◌-◌, ◌<◌, ◌⊎◌, ◌∷◌, ◌∙◌}
+use Rattle.std.proofs.Common.{◌≡◌, ◌≢◌, ◌+◌, ◌-◌, ◌<◌, ◌≤◌, ◌⊎◌, ◌∷◌, ◌∙◌}
 use Rattle.std.specs.Prelude.{◌==◌, slice_set, slice_index}
 use mathlib.Core.Option.{some, none}
 use lib.ListN.{get_elem?}
@@ -84,7 +84,7 @@ module _ {T : Type 0} where
         tt,
         subst (λ (z : List ℕ). Keeps record { words = z; homes = s.homes; views = slice_set s.views id w }) (sym
             (stays_word s k (slice_index s.words 0) refl))
-            (moved s k id v w at part k.homes k.all k.mark (grows_same k.homes) k.agrees (λ n _. refl)
+            (moved s k id v w at part refl k.homes k.all k.mark (grows_same k.homes) k.leads k.agrees (λ n _. refl)
             (λ g. let x : times (g id) v.visits ≡ 0 = ap (times (g id)) b.0 in let y : times
             (g v.number) v.visits ≡ 0 = ap (times (g v.number)) b.0 in omega arith)
             (λ m h e. busy_same s k m (is_in m v) h e)
@@ -98,7 +98,8 @@ module _ {T : Type 0} where
               idle = λ z. absurd (omega arith);
               ended = ended_stay s k id v w at part k.all (λ n _. refl);
             }
-            (still_told s k id v w k.homes at refl refl (k.told id v at).may_add refl refl refl)
+            (still_told s k id v w k.homes at (grows_same k.homes) refl refl (k.told id v at).may_add refl refl refl
+            (k.told id v at).over)
             s.words s.homes (lock_view s k.homes k.mark k.mark s.words id v w at refl refl
             (tallies_stay s k.mark id v w at refl refl refl) k.lock)),
         (id, refl),
@@ -125,22 +126,25 @@ module _ {T : Type 0} where
       → ((lock : ℕ) → s.words ≡ lock ∷ tallies s.views k.mark
       → slice_set s.words i new ≡ lock ∷ tallies (slice_set s.views id w) k.mark) × AllFitEnd s k id w k.homes k.mark
 
-  recounts : (slots id i seen new a b c : ℕ) (d : Bool) (f : ℕ → Knows T → Knows T) (me : Sat T) → me.0.live ≡ true
+  recounts : (of : Knows T → ℕ) (slots id i seen new a b c : ℕ) (d : Bool) (f : ℕ → Knows T → Knows T) (me : Sat T)
+      → ((s : State (Homes T) (Knows T)) → Keeps s → slice_index s.words i ≡ total of s.views) → me.0.live ≡ true
       → 0 < a → recounted a b c d me.0 ≡ f seen me.0 → Recounts i seen new id me.0 (recounted a b c d me.0)
-      → Allows Keeps slots id me i (λ n. either (n == seen) new n) (counting f (step slots i seen new none) me)
-  recounts slots id i seen new a b c d f me live some_ is owes s k len at small =
+      → Allows Keeps slots id me i (λ n. either (n == seen) new n) (counting of f (step slots i seen new none) me)
+  recounts of slots id i seen new a b c d f me word live some_ is owes s k len at small =
       let v = me.0 in
       let w = recounted a b c d v in
       let x = k.fits id v at in
       let part = has_part k.homes k.all s.views id v x live in
+      let low : of v ≤ slice_index s.words i = subst (λ n. of v ≤ n) (sym (word s k))
+      (below_total of s.views id v at) in
       exchanged (slice_index s.words i) seen new
       (λ m. (w : Knows T) × (a : Act (Homes T)) × Valid s.homes me.1 a × Keeps (stepped s i m id me.1 w a)
-      × counting f (step slots i seen new none) me (slice_index s.words i) (w, carried_after me.1 a))
+      × counting of f (step slots i seen new none) me (slice_index s.words i) (w, carried_after me.1 a))
       (λ e. let o = owes s k at e in (
         w,
         keeps,
         tt,
-        moved s k id v w at part k.homes k.all k.mark (grows_same k.homes) k.agrees (λ n _. refl)
+        moved s k id v w at part refl k.homes k.all k.mark (grows_same k.homes) k.leads k.agrees (λ n _. refl)
             (λ g. omega arith) (λ m h e. busy_same s k m (is_in m v) h e)
             record {
               named = x.named;
@@ -154,14 +158,14 @@ module _ {T : Type 0} where
             }
             o.1 (slice_set s.words i new) s.homes
             (lock_view s k.homes k.mark k.mark (slice_set s.words i new) id v w at refl refl o.0 k.lock),
-        (refl, (λ q. is ∙ ap (λ r. f r v) (sym q)), λ ne. absurd (ne e)),
+        (refl, (λ q. is ∙ ap (λ r. f r v) (sym q)), (λ ne. absurd (ne e)), low),
       ))
       (λ ne. (
         v,
         keeps,
         tt,
         unchanged s k id i v at,
-        (refl, (λ e. absurd (ne e)), λ _. refl),
+        (refl, (λ e. absurd (ne e)), (λ _. refl), low),
       ))
 
   -- if no sender was left, none is
@@ -172,14 +176,21 @@ module _ {T : Type 0} where
       → AllFitEnd s k id (recounted a b c d v) k.homes k.mark
   tell_on s k id v a b c d at none_left alone =
       let w = recounted a b c d v in
-      let t = told_same k.homes k.homes k.mark s.views (slice_set s.views id w) v refl none_left (k.told id v at) in (
-        λ j u ne at'. told_same k.homes k.homes k.mark s.views (slice_set s.views id w) u refl none_left
-            (k.told j u at'),
-        record { may_add = t.may_add; alone = alone; shut = t.shut; last = t.last },
+      let t = told_same k.homes k.homes k.mark s.views (slice_set s.views id w) v (grows_same k.homes) refl none_left
+      (k.told id v at) in (
+        λ j u ne at'. told_same k.homes k.homes k.mark s.views (slice_set s.views id w) u (grows_same k.homes) refl
+            none_left (k.told j u at'),
+        record { may_add = t.may_add; alone = alone; shut = t.shut; over = t.over; last = t.last },
       )
 
   pub senders_word : (s : State (Homes T) (Knows T)) (k : Keeps s) → slice_index s.words 2 ≡ total sends s.views
   senders_word s k = ⊎_elim (λ x. ap (λ l. slice_index l 2) x.1) (λ x. ap (λ l. slice_index l 2) x.1) k.lock
+
+  rights_word : (s : State (Homes T) (Knows T)) (k : Keeps s) → slice_index s.words 1 ≡ total rights s.views
+  rights_word s k = ⊎_elim (λ x. ap (λ l. slice_index l 1) x.1) (λ x. ap (λ l. slice_index l 1) x.1) k.lock
+
+  receivers_word : (s : State (Homes T) (Knows T)) (k : Keeps s) → slice_index s.words 3 ≡ total receives s.views
+  receivers_word s k = ⊎_elim (λ x. ap (λ l. slice_index l 3) x.1) (λ x. ap (λ l. slice_index l 3) x.1) k.lock
 
   pub mark_word : (s : State (Homes T) (Knows T)) (k : Keeps s) → slice_index s.words 4 ≡ k.mark
   mark_word s k = ⊎_elim (λ x. ap (λ l. slice_index l 4) x.1) (λ x. ap (λ l. slice_index l 4) x.1) k.lock
@@ -203,10 +214,10 @@ module _ {T : Type 0} where
 
   pub adds : (slots id seen new : ℕ) (me : Sat T) → me.0.live ≡ true → new ≡ seen + 1
       → Allows Keeps slots id me 1 (λ n. either (n == seen) new n)
-      (counting (λ _. counts_more) (step slots 1 seen new none) me)
+      (counting rights (λ _. counts_more) (step slots 1 seen new none) me)
   adds slots id seen new me live one = let v = me.0 in
-      recounts slots id 1 seen new (v.rights + 1) v.sends v.receives v.alone (λ _. counts_more) me live (omega arith)
-      refl (λ s k at is.
+      recounts rights slots id 1 seen new (v.rights + 1) v.sends v.receives v.alone (λ _. counts_more) me rights_word
+      live (omega arith) refl (λ s k at is.
       let w = counts_more v in
       let a = total_set rights s.views id v w at in
       let b = total_set sends s.views id v w at in
@@ -224,10 +235,11 @@ module _ {T : Type 0} where
 
   pub hires_one : (slots id seen new : ℕ) (me : Sat T) → me.0.live ≡ true → 0 < me.0.sends → new ≡ seen + 1
       → Allows Keeps slots id me 2 (λ n. either (n == seen) new n)
-      (counting (λ _. hires_sender) (step slots 2 seen new none) me)
+      (counting sends (λ _. hires_sender) (step slots 2 seen new none) me)
   hires_one slots id seen new me live some_ one s k len at small = let v = me.0 in
       let part = has_part k.homes k.all s.views id v (k.fits id v at) live in
-      recounts slots id 2 seen new v.rights (v.sends + 1) v.receives v.alone (λ _. hires_sender) me live part refl
+      recounts sends slots id 2 seen new v.rights (v.sends + 1) v.receives v.alone (λ _. hires_sender) me senders_word
+      live part refl
       (λ s k at is.
       let w = hires_sender v in
       let a = total_set rights s.views id v w at in
@@ -247,11 +259,11 @@ module _ {T : Type 0} where
 
   pub retires_one : (slots id seen new : ℕ) (me : Sat T) → me.0.live ≡ true → 0 < me.0.sends → seen ≡ new + 1
       → Allows Keeps slots id me 2 (λ n. either (n == seen) new n)
-      (counting (λ r. retires_sender (nat_eq r 1)) (step slots 2 seen new none) me)
+      (counting sends (λ r. retires_sender (nat_eq r 1)) (step slots 2 seen new none) me)
   retires_one slots id seen new me live some_ one s k len at small = let v = me.0 in
       let part = has_part k.homes k.all s.views id v (k.fits id v at) live in
-      recounts slots id 2 seen new v.rights (v.sends - 1) v.receives (nat_eq seen 1)
-      (λ r. retires_sender (nat_eq r 1)) me live part refl
+      recounts sends slots id 2 seen new v.rights (v.sends - 1) v.receives (nat_eq seen 1)
+      (λ r. retires_sender (nat_eq r 1)) me senders_word live part refl
       (λ s k at is.
       let w = retires_sender (nat_eq seen 1) v in
       let a = total_set rights s.views id v w at in
@@ -271,16 +283,18 @@ module _ {T : Type 0} where
   -- the same for receivers
   pub hires_other : (slots id seen new : ℕ) (me : Sat T) → me.0.live ≡ true → 0 < me.0.receives → new ≡ seen + 1
       → Allows Keeps slots id me 3 (λ n. either (n == seen) new n)
-      (counting (λ _. hires_receiver) (step slots 3 seen new none) me)
+      (counting receives (λ _. hires_receiver) (step slots 3 seen new none) me)
   hires_other slots id seen new me live some_ one s k len at small = let v = me.0 in
       let part = has_part k.homes k.all s.views id v (k.fits id v at) live in
-      recounts slots id 3 seen new v.rights v.sends (v.receives + 1) v.alone (λ _. hires_receiver) me live part refl
+      recounts receives slots id 3 seen new v.rights v.sends (v.receives + 1) v.alone (λ _. hires_receiver) me
+      receivers_word live part refl
       (receivers_owe seen new id v (v.receives + 1) (λ t u e n. omega arith)) s k len at small
 
   pub retires_other : (slots id seen new : ℕ) (me : Sat T) → me.0.live ≡ true → 0 < me.0.receives → seen ≡ new + 1
       → Allows Keeps slots id me 3 (λ n. either (n == seen) new n)
-      (counting (λ _. retires_receiver) (step slots 3 seen new none) me)
+      (counting receives (λ _. retires_receiver) (step slots 3 seen new none) me)
   retires_other slots id seen new me live some_ one s k len at small = let v = me.0 in
       let part = has_part k.homes k.all s.views id v (k.fits id v at) live in
-      recounts slots id 3 seen new v.rights v.sends (v.receives - 1) v.alone (λ _. retires_receiver) me live part refl
+      recounts receives slots id 3 seen new v.rights v.sends (v.receives - 1) v.alone (λ _. retires_receiver) me
+      receivers_word live part refl
       (receivers_owe seen new id v (v.receives - 1) (λ t u e n. omega arith)) s k len at small

@@ -9,19 +9,25 @@ use prog.Atomic.{either}
 use Rattle.atomic_table.specs.Table.{State, Act, keeps, takes, gives, step, stepped, Allows, Valid, carried_after, homes_after, put_back, rest}
 use Rattle.atomic_table.proofs.Lists.{exchanged, set_again, at_set, set_else}
 use Rattle.mb_channel.specs.Types.{Home, Homes, Knows, Past, arc_value}
-use Rattle.mb_channel.specs.Homes.{Agrees, AllPast, Fits, Grows, IsBusy, IsFree, IsHeld, IsIn, IsNear, IsNext, Keeps, Made, MayGive, PastFits, Sat, IsSpent, Stands, FitsEnd}
-use Rattle.mb_channel.specs.Homes.{count, is_in, locked, made_by, made_count, tallies, out_of, receives, rights, sends, takes_lock, total, unlocked}
-use Rattle.mb_channel.proofs.Views.{below_total, in_here, not_true, past_map, size_set, there, total_set}
+use Rattle.mb_channel.specs.Homes.{Agrees, AllPast, AreLed, AreOver, Fits, Grows, IsBusy, IsFree, IsHeld, IsIn, IsNear, IsNext, Keeps, Made, MayGive, PastFits, Sat, IsSpent, Stands, FitsEnd}
+use Rattle.mb_channel.specs.Homes.{count, how_many, is_in, locked, made_by, made_count, tallies, out_of, receives, rights, sends, takes_lock, total, unlocked}
+use Rattle.mb_channel.proofs.Views.{below_total, in_here, none_many, not_true, past_map, size_set, there, total_set}
 
 module _ {T : Type 0} where
   abbrev pub Same : List (Made T) → List (Made T) → ℕ → Type 0
   Same all new id = (n : ℕ) → n ≢ id → made_by n new ≡ made_by n all
 
   pub grows_same : (hs : List (Home T)) → Grows hs hs
-  grows_same hs k h at = (h, at, (refl, λ d. d))
+  grows_same hs k h at = (h, at, (refl, (λ d. d), λ o. o))
 
   pub next_grows : (hs gs : List (Home T)) → Grows hs gs → (k : ℕ) → IsNext hs k → IsNext gs k
   next_grows hs gs grows k is j lt = let a = is j lt in let g = grows j a.0 a.1 in (g.0, g.1, g.2.1 a.2)
+
+  pub over_grows : (hs gs : List (Home T)) → Grows hs gs → (k : ℕ) → AreOver hs k → AreOver gs k
+  over_grows hs gs grows k is j lt = let a = is j lt in let g = grows j a.0 a.1 in (g.0, g.1, g.2.2 a.2)
+
+  pub led_grows : (hs gs : List (Home T)) → Grows hs gs → length gs ≡ length hs → AreLed hs → AreLed gs
+  led_grows hs gs grows size led j lt = let a = led j (omega arith) in let g = grows j a.0 a.1 in (g.0, g.1, g.2.2 a.2)
 
   pub near_grows : (hs gs : List (Home T)) → Grows hs gs → (k : ℕ) → IsNear hs k → IsNear gs k
   near_grows hs gs grows k is = ⊎_elim (λ e. inl e)
@@ -40,6 +46,12 @@ module _ {T : Type 0} where
       let z = spent.2 in
       omega arith
       )
+
+  -- nor was it given back to anybody
+  pub not_back : (s : State (Homes T) (Knows T)) (k : Keeps s) (id : ℕ) (v : Knows T) → get_elem? s.views id ≡ some v
+      → 0 < v.rights → (j : ℕ) (u : Knows T) → get_elem? s.views j ≡ some u → how_many id u.ended ≡ 0
+  not_back s k id v at part j u at' = none_many id u.ended (past_map (PastFits k.all s.views) (λ p. p.number ≢ id)
+      u.ended (λ p x. not_spent s.views id v at part p.number x.2) (k.fits j u at').ended)
 
   pub past_stays : (all new : List (Made T)) (views : List (Knows T)) (id : ℕ) (v w : Knows T)
       → get_elem? views id ≡ some v → 0 < v.rights
@@ -62,13 +74,18 @@ module _ {T : Type 0} where
       λ i. x i ∷ y i ∷ z i ∷ mark ∷ []
 
   pub told_same : (hs gs : List (Home T)) (mark : ℕ) (views ws : List (Knows T)) (u : Knows T)
-      → length gs ≡ length hs → (total sends views ≡ 0 → total sends ws ≡ 0) → FitsEnd hs mark views u
+      → Grows hs gs → length gs ≡ length hs → (total sends views ≡ 0 → total sends ws ≡ 0) → FitsEnd hs mark views u
       → FitsEnd gs mark ws u
-  told_same hs gs mark views ws u size none_left t = record {
+  told_same hs gs mark views ws u grows size none_left t = record {
     may_add = t.may_add;
     alone = λ q. none_left (t.alone q);
     shut = t.shut;
-    last = λ n q. let x = t.last n q in (size ∙ x.0, ⊎_elim (λ e. inl e) (λ e. inr (none_left e)) x.1);
+    over = λ q. over_grows hs gs grows u.at (t.over q);
+    last = λ n q. let x = t.last n q in (
+      size ∙ x.0,
+      ⊎_elim (λ e. inl e) (λ e. inr (none_left e)) x.1,
+      over_grows hs gs grows n x.2,
+    );
   }
 
   -- what the others say is still so after the step of one
@@ -78,41 +95,47 @@ module _ {T : Type 0} where
 
   -- where the list and the number of senders stay
   pub still_told : (s : State (Homes T) (Knows T)) (k : Keeps s) (id : ℕ) (v w : Knows T) (hs : List (Home T))
-      → get_elem? s.views id ≡ some v → length hs ≡ length k.homes → w.sends ≡ v.sends
+      → get_elem? s.views id ≡ some v → Grows k.homes hs → length hs ≡ length k.homes → w.sends ≡ v.sends
       → (w.may_add ≡ true → (w.holds ≡ true) × (0 < k.mark)) → w.alone ≡ v.alone → w.shut ≡ v.shut → w.last ≡ v.last
-      → AllFitEnd s k id w hs k.mark
-  still_told s k id v w hs at size same may_add alone shut last =
+      → (w.orderly ≡ true → AreOver hs w.at) → AllFitEnd s k id w hs k.mark
+  still_told s k id v w hs at grows size same may_add alone shut last over =
       let b = total_set sends s.views id v w at in
       let e : total sends (slice_set s.views id w) ≡ total sends s.views = omega arith in
-      let t = told_same k.homes hs k.mark s.views (slice_set s.views id w) v size (λ q. e ∙ q) (k.told id v at) in (
-        λ j u ne at'. told_same k.homes hs k.mark s.views (slice_set s.views id w) u size (λ q. e ∙ q) (k.told j u at'),
+      let t = told_same k.homes hs k.mark s.views (slice_set s.views id w) v grows size (λ q. e ∙ q)
+      (k.told id v at) in (
+        λ j u ne at'. told_same k.homes hs k.mark s.views (slice_set s.views id w) u grows size (λ q. e ∙ q)
+            (k.told j u at'),
         record {
           may_add = may_add;
           alone = λ q. t.alone (sym alone ∙ q);
           shut = λ q. t.shut (sym shut ∙ q);
+          over = over;
           last = λ n q. t.last n (sym last ∙ q);
         },
       )
 
   -- a step of one that counts for an end. `mine`: its new view fits
   pub moved : (s : State (Homes T) (Knows T)) (k : Keeps s) (id : ℕ) (v w : Knows T) → get_elem? s.views id ≡ some v
-      → 0 < v.rights
-      → (hs : List (Home T)) (new : List (Made T)) (mark : ℕ) → Grows k.homes hs → Agrees hs new → Same k.all new id
-      → ((f : ℕ → ℕ) → count f w + made_count f k.all ≡ count f v + made_count f new)
+      → 0 < v.rights → w.ended ≡ v.ended
+      → (hs : List (Home T)) (new : List (Made T)) (mark : ℕ) → Grows k.homes hs → AreLed hs → Agrees hs new
+      → Same k.all new id → ((f : ℕ → ℕ) → count f w + made_count f k.all ≡ count f v + made_count f new)
       → ((m : ℕ) (h : Home T) → get_elem? hs m ≡ some h → out_of h + is_in m v ≡ total (is_in m) s.views + is_in m w)
       → Fits hs new (slice_set s.views id w) id w → AllFitEnd s k id w hs mark
       → (words : List ℕ) (homes : List (maybe.Option (Homes T)))
       → (IsFree record { words = words; homes = homes; views = slice_set s.views id w } hs mark
       ⊎ IsHeld record { words = words; homes = homes; views = slice_set s.views id w } hs mark)
       → Keeps record { words = words; homes = homes; views = slice_set s.views id w }
-  moved s k id v w at part hs new mark grows agrees same weight busy mine tells words homes lock = record {
+  moved s k id v w at part past hs new mark grows leads agrees same weight busy mine tells words homes lock = record {
     homes = hs;
     all = new;
     mark = mark;
     lock = lock;
+    leads = leads;
     agrees = agrees;
     balance = λ f. (let t = total_set (count f) s.views id v w at in let b = k.balance f in let d = weight f
         in omega arith);
+    once = λ n. (let t = total_set (λ u. how_many n u.ended) s.views id v w at in let o = k.once n in
+        let e : how_many n w.ended ≡ how_many n v.ended = ap (how_many n) past in omega arith);
     crowd = λ m h e. (let t = total_set (is_in m) s.views id v w at in let c = busy m h e in omega arith);
     fresh = λ m long. (
         let l = size_set s.views id w in
@@ -160,7 +183,7 @@ module _ {T : Type 0} where
   has_part hs all views id v f live = go v.rights refl
     where
       go : (n : ℕ) → v.rights ≡ n → 0 < n
-      go zero e = absurd (true≢false (sym live ∙ (f.idle e).0))
+      go zero e = absurd (true≢false (sym live ∙ ap (λ (z : Knows T). z.live) (f.idle e)))
       go (suc n) e = omega arith
 
   -- the ended of a view that fits, after its step
@@ -200,7 +223,7 @@ module _ {T : Type 0} where
         w,
         takes 0 l,
         ap (λ x. get_elem? x 0) free.2,
-        moved s k id v w at part k.homes k.all k.mark (grows_same k.homes) k.agrees (λ n _. refl)
+        moved s k id v w at part refl k.homes k.all k.mark (grows_same k.homes) k.leads k.agrees (λ n _. refl)
             (λ g. omega arith) (λ m h e. busy_same s k m (is_in m v) h e)
             record {
               named = f.named;
@@ -212,7 +235,8 @@ module _ {T : Type 0} where
               idle = λ z. absurd (omega arith);
               ended = ended_stay s k id v w at part k.all (λ n _. refl);
             }
-            (still_told s k id v w k.homes at refl refl (λ q. (refl, ((k.told id v at).may_add q).1)) refl refl refl)
+            (still_told s k id v w k.homes at (grows_same k.homes) refl refl
+            (λ q. (refl, ((k.told id v at).may_add q).1)) refl refl refl (k.told id v at).over)
             (slice_set s.words 0 1) (slice_set s.homes 0 none)
             (inr (
               id,
@@ -244,7 +268,7 @@ module _ {T : Type 0} where
 
   -- what an end does that gives the lock back. All segments are hs now, w is its view, and `new` are the visits
   abbrev pub Lawful : (s : State (Homes T) (Knows T)) → Keeps s → ℕ → Knows T → List (Home T) → Knows T → Type 0
-  Lawful s k id v hs w = (new : List (Made T)) × Grows k.homes hs × Agrees hs new × Same k.all new id
+  Lawful s k id v hs w = (new : List (Made T)) × Grows k.homes hs × AreLed hs × Agrees hs new × Same k.all new id
       × ((g : ℕ → ℕ) → count g w + made_count g k.all ≡ count g v + made_count g new)
       × ((m : ℕ) (h : Home T) → get_elem? hs m ≡ some h → out_of h + is_in m v ≡ total (is_in m) s.views + is_in m w)
       × Fits hs new (slice_set s.views id w) id w × AllFitEnd s k id w hs k.mark
@@ -252,11 +276,12 @@ module _ {T : Type 0} where
   pub unlocks : (f : Knows T → Knows T) (slots id : ℕ) (me : Sat T) (y : Homes T) (hs : List (Home T)) → Stands hs y
       → me.1 ≡ (0, y) ∷ [] → me.0.live ≡ true → me.0.holds ≡ true
       → (f (unlocked me.0)).rights ≡ me.0.rights → (f (unlocked me.0)).sends ≡ me.0.sends
-      → (f (unlocked me.0)).receives ≡ me.0.receives → (f (unlocked me.0)).holds ≡ false
+      → (f (unlocked me.0)).receives ≡ me.0.receives → (f (unlocked me.0)).ended ≡ me.0.ended
+      → (f (unlocked me.0)).holds ≡ false
       → ((s : State (Homes T) (Knows T)) (k : Keeps s) → get_elem? s.views id ≡ some me.0 → 0 < me.0.rights
       → me.0.before ≡ k.homes → Lawful s k id me.0 hs (f (unlocked me.0)))
       → MayGive f slots id me
-  unlocks f slots id me y hs stands carried live holds ends senders receivers lets go s k len at small =
+  unlocks f slots id me y hs stands carried live holds ends senders receivers past lets go s k len at small =
       ⊎_elim
       (λ free. absurd (true≢false (sym holds ∙ free.4 id me.0 at)))
       (λ held.
@@ -269,7 +294,7 @@ module _ {T : Type 0} where
         w,
         gives,
         tt,
-        moved s k id me.0 w at part hs r.0 k.mark r.1 r.2 r.3 r.4 r.5 r.6 r.7
+        moved s k id me.0 w at part past hs r.0 k.mark r.1 r.2 r.3 r.4 r.5 r.6 r.7 r.8
             (slice_set s.words 0 0) (homes_after s.homes me.1 gives)
             (inl (
               y,

@@ -88,12 +88,17 @@ module _ {T : Type 0} where
   awake_of ss keep turn s has few = over s.is_over refl
     where
       here : s.is_over ≡ false → (v : Bool) → s.is_visited ≡ v
-          → length (left (lives ss)) ≤ s.sleepers.tokens + s.sleepers.owed
+          → length (left (lives ss)) ≤ s.sleepers.tokens + s.sleepers.owed + s.sleepers.owed_to_all
       here on false is = let z = ((keeps_at ss keep s has.0 has.1 has.2).unvisited is).1 in absurd (omega arith)
       here on true is = let e = ap length (left_here ss turn s has is on) in
           ⊎_elim (λ q. absurd (omega arith)) (λ q. omega arith) (keeps_at ss keep s has.0 has.1 has.2).quiet
 
+      paid : (n : ℕ) → s.sleepers.owed_to_all ≡ n → s.is_over ≡ false → (0 < s.sleepers.owed_to_all)
+          ⊎ ((s.is_over ≡ false) × (length (left (lives ss)) ≤ s.sleepers.tokens + s.sleepers.owed))
+      paid zero e is = let h = here is s.is_visited refl in inr (is, omega arith)
+      paid (suc n) e is = inl (omega arith)
+
       over : (b : Bool) → s.is_over ≡ b → (0 < s.sleepers.owed_to_all)
           ⊎ ((s.is_over ≡ false) × (length (left (lives ss)) ≤ s.sleepers.tokens + s.sleepers.owed))
       over true is = ⊎_elim (λ q. absurd (omega arith)) (λ q. inl q) ((keeps_at ss keep s has.0 has.1 has.2).shut is)
-      over false is = inr (is, here is s.is_visited refl)
+      over false is = paid s.sleepers.owed_to_all refl is

@@ -4,8 +4,9 @@ use Rattle.std.proofs.Common.{◌≡◌, ◌≢◌, ◌+◌, ◌<◌, ◌≤◌,
 use Rattle.std.specs.Prelude.{slice_set}
 use mathlib.Core.Option.{some, some-injective, some-ne-none}
 use lib.ListN.{get_elem?}
+use native.Mathlib.Decide.{ℕ_discrete}
 use Rattle.mb_channel.specs.Types.{Knows, Past}
-use Rattle.mb_channel.specs.Homes.{AllMade, AllPast, Made, is_in, made_by, made_in, past_count, total}
+use Rattle.mb_channel.specs.Homes.{AllMade, AllPast, Made, how_many, is_in, made_by, made_in, past_count, total}
 
 pub not_true : (b : Bool) → (b ≡ true → ⊥) → b ≡ false
 not_true true n = absurd (n refl)
@@ -105,6 +106,26 @@ module _ {T : Type 0} where
       (xs ++ ys) ≡ past_count f xs + past_count f ys
   past_count_append f [] ys = omega arith
   past_count_append f (x ∷ xs) ys = let r = past_count_append f xs ys in omega arith
+
+  pub how_many_append : (n : ℕ) (xs ys : List (Past T)) → how_many n (xs ++ ys) ≡ how_many n xs + how_many n ys
+  how_many_append n [] ys = omega arith
+  how_many_append n (x ∷ xs) ys = let r = how_many_append n xs ys in omega arith
+
+  pub none_many : (n : ℕ) (ps : List (Past T)) → AllPast (λ p. p.number ≢ n) ps → how_many n ps ≡ 0
+  none_many n [] a = refl
+  none_many n (p ∷ ps) a = let r = none_many n ps a.1 in
+      (λ i. (if ne_eqb p.number n a.0 i then 1 else 0) + r i)
+
+  -- one more of them, of whose number there was none
+  pub once_more : (p : Past T) (n old new : ℕ) → new ≡ (if nat_eq p.number n then 1 else 0) + old → old ≤ 1
+      → (p.number ≡ n → old ≡ 0) → new ≤ 1
+  once_more p n old new e one none_ = go (ℕ_discrete p.number n)
+    where
+      go : Dec (p.number ≡ n) → new ≤ 1
+      go (yes q) = let z = none_ q in
+          let x : new ≡ 1 + old = e ∙ ap (λ (b : Bool). (if b then 1 else 0) + old) (eq-eqb p.number n q) in omega arith
+      go (no q) =
+          let x : new ≡ 0 + old = e ∙ ap (λ (b : Bool). (if b then 1 else 0) + old) (ne_eqb p.number n q) in omega arith
 
   pub made_map : (P Q : Made T → Type 0) (ms : List (Made T)) → ((m : Made T) → P m → Q m) → AllMade P ms → AllMade Q ms
   made_map P Q [] f a = tt

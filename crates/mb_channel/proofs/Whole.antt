@@ -6,11 +6,12 @@ use lib.ListN.{get_elem?}
 use Rattle.atomic_table.specs.Table.{State, opening, Final, Seen}
 use Rattle.mb_channel.specs.Types.{Home, Homes, Knows, Past}
 use Rattle.mb_channel.specs.Homes.{Falls, Fits, IsNone, IsWhole, Keeps, Made, PastFits, Stands, FitsEnd}
-use Rattle.mb_channel.specs.Homes.{count, first_view, is_in, made_by, made_count, out_of, past_count}
+use Rattle.mb_channel.specs.Homes.{count, first_view, how_many, is_in, made_by, made_count, out_of, past_count, past_of}
 use Rattle.mb_channel.specs.Homes.{rights, times, total}
 use Rattle.mb_channel.proofs.Freed.{all_homes}
-use Rattle.mb_channel.proofs.Views.{in_none, only, past_map, two_below}
+use Rattle.mb_channel.proofs.Views.{in_none, once_more, only, past_map, two_below}
 use Rattle.mb_channel.proofs.Back.{knows_nothing}
+use Rattle.mb_channel.proofs.Moves.{has_part, not_back}
 
 abbrev is_one : ℕ → ℕ → ℕ
 is_one n m = if nat_eq m n then 1 else 0
@@ -37,10 +38,12 @@ module _ {T : Type 0} where
       record { gone = []; all = sym is; number = sym none_freed; freed = tt },
       λ id v at. ap (λ (z : Knows T). z.holds) (first_is id v at),
     );
+    leads = λ j lt. absurd (omega arith);
     agrees = record { here = λ k h at. absurd (some-ne-none h (sym at)); none_behind = λ k _. refl; turn = tt };
     told = λ id v at. subst (λ (z : Knows T). FitsEnd [] 1 (first_view ∷ []) z) (sym (first_is id v at))
-        (knows_nothing [] 1 (first_view ∷ []) first_view refl refl refl refl);
+        (knows_nothing [] 1 (first_view ∷ []) first_view refl refl refl refl refl);
     balance = λ f. omega arith;
+    once = λ n. omega arith;
     crowd = λ m h e. absurd (some-ne-none h (sym e));
     fresh = λ n long. refl;
     fits = λ id v at. subst (λ (z : Knows T). Fits [] [] (first_view ∷ []) id z) (sym (first_is id v at)) record {
@@ -77,22 +80,39 @@ module _ {T : Type 0} where
   knows s k id v at live every =
       let f = k.fits id v at in
       let n = f.named live in
-      let none_else : (g : ℕ → ℕ) (j : ℕ) (u : Knows T) → j ≢ id → get_elem? s.views j ≡ some u → count g u ≡ 0 =
-      λ g j u ne at'. (
+      let nothing_else : (j : ℕ) (u : Knows T) → j ≢ id → get_elem? s.views j ≡ some u
+      → (u.visits ≡ []) × (u.ended ≡ []) × (u.inside ≡ false) = λ j u ne at'. (
       let t = two_below rights s.views j id u v ne at' at in
       let x = k.fits j u at' in
       let none_left : u.rights ≡ 0 = omega arith in
-      let b = x.newborn (x.idle none_left).0 in
+      let e = x.idle none_left in (
+        ap (λ (z : Knows T). z.visits) e,
+        ap (λ (z : Knows T). z.ended) e,
+        ap (λ (z : Knows T). z.inside) e,
+      )
+      ) in
+      let none_else : (g : ℕ → ℕ) (j : ℕ) (u : Knows T) → j ≢ id → get_elem? s.views j ≡ some u → count g u ≡ 0 =
+      λ g j u ne at'. (
+      let b = nothing_else j u ne at' in
       let p : times (g u.number) u.visits ≡ 0 = ap (times (g u.number)) b.0 in
       let q : past_count g u.ended ≡ 0 = ap (past_count g) b.1 in
       omega arith
       ) in
       record {
         all = k.all;
+        leads = k.leads;
         agrees = k.agrees;
         own = (n.1 ∙ ap (λ i. made_by i k.all) (sym n.0), f.falls);
         others = past_map (PastFits k.all s.views) (λ p. (p.visits ≡ made_by p.number k.all) × ((b : ℕ)
             × Falls b p.visits)) v.ended (λ p x. (x.0, x.1)) f.ended;
+        once = λ m. (
+            let a = only (λ u. how_many m u.ended) s.views id v at
+            (λ j u ne at'. ap (how_many m) (nothing_else j u ne at').1) in
+            let b = k.once m in
+            once_more (past_of v) m (how_many m v.ended) (how_many m (past_of v ∷ v.ended)) refl (omega arith)
+            (λ q. ap (λ i. how_many i v.ended) (sym q ∙ n.0)
+            ∙ not_back s k id v at (has_part k.homes k.all s.views id v f live) id v at)
+            );
         nobody = λ m ne none_. none_made m k.all (
             let a = only (count (is_one m)) s.views id v at (none_else (is_one m)) in
             let b = k.balance (is_one m) in
@@ -102,12 +122,7 @@ module _ {T : Type 0} where
             omega arith
             );
         empty = λ out. all_homes k.homes (λ h. out_of h ≡ 0) (λ m h e. (
-            let a = only (is_in m) s.views id v at (λ j u ne at'. (
-            let t = two_below rights s.views j id u v ne at' at in
-            let x = k.fits j u at' in
-            let none_left : u.rights ≡ 0 = omega arith in
-            in_none u m (x.newborn (x.idle none_left).0).2
-            )) in
+            let a = only (is_in m) s.views id v at (λ j u ne at'. in_none u m (nothing_else j u ne at').2) in
             let b = k.crowd m h e in
             let c = in_none v m out in
             omega arith

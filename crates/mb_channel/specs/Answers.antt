@@ -5,8 +5,16 @@ use Rattle.mb_channel.specs.declared.answers.Appended.{Appended}
 use Rattle.mb_channel.specs.declared.answers.Appended.TheVariants.{There, Closed as Shut, Locked as Busy}
 use Rattle.mb_channel.specs.declared.answers.Retired.{Retired}
 use Rattle.mb_channel.specs.declared.answers.Retired.TheVariants.{Again, Last, One}
+use Rattle.mb_channel.specs.declared.channel.Refused.{Refused}
+use Rattle.mb_channel.specs.declared.channel.Refused.TheVariants.{NoMemory, Closed as Ended, Crowded as Full}
 use Rattle.mb_channel.specs.declared.answers.Came.{Came}
 use Rattle.mb_channel.specs.declared.answers.Came.TheVariants.{Closed, Crowded, Gone, Here, Locked, NotYet}
+
+-- if the call was refused since the channel is closed, this is so
+abbrev pub IfClosed : Refused → Type 0 → Type 0
+IfClosed NoMemory closed = Unit {0}
+IfClosed Ended closed = closed
+IfClosed Full closed = Unit {0}
 
 -- an end got a pass, went on, was told that no segment is there yet, or ever will be, or nothing changed
 abbrev pub OfCame : {T : Type 0} → Came T → (Arc (Segment T Global) Global → Pass T → Type 0) → (ℕ → Type 0)
@@ -24,8 +32,8 @@ OfAppended There same closed = same
 OfAppended Shut same closed = closed
 OfAppended Busy same closed = same
 
--- no sender is left, or one is, or nothing changed
-abbrev pub OfRetired : Retired → Type 0 → Type 0 → Type 0 → Type 0
-OfRetired Last last one same = last
-OfRetired One last one same = one
-OfRetired (Again n) last one same = same
+-- no sender is left, or one is, or nothing changed and there were so many
+abbrev pub OfRetired : Retired → Type 0 → Type 0 → (ℕ → Type 0) → Type 0
+OfRetired Last last one again = last
+OfRetired One last one again = one
+OfRetired (Again n) last one again = again n

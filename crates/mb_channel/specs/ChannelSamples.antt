@@ -118,6 +118,14 @@ overslept = moment 1 false false (passed 0 ∷ last (entry 0 11 ∷ []) false (s
 abbrev pub token_elsewhere : Moment ℕ
 token_elsewhere = moment 1 false false (passed 1 ∷ last (entry 0 11 ∷ []) false (sleepers 1 0 0 0) ∷ [])
 
+-- the last position of the segment was drawn: one sleeps, and the sender owes a token to each that does
+abbrev pub last_drawn : Moment ℕ
+last_drawn = moment 1 false false (passed 0 ∷ last (entry 0 11 ∷ []) true (sleepers 1 0 0 1) ∷ [])
+
+-- the same, and the sender owes one wake alone
+abbrev pub last_forgotten : Moment ℕ
+last_forgotten = moment 1 false false (passed 0 ∷ last (entry 0 11 ∷ []) true (sleepers 1 0 1 0) ∷ [])
+
 -- one sleeps in a segment that is over, and nobody owes anything
 abbrev pub slept_past_the_end : Moment ℕ
 slept_past_the_end = moment 0 false false (last [] true (sleepers 1 0 0 0) ∷ [])

@@ -7,7 +7,11 @@ use Rattle.mb_channel.specs.Types.{Home, Homes, Knows}
 abbrev pub ListState : Type 0 → Type 0
 ListState T = State (Homes T) (Knows T)
 
--- whatever state its table is in, if the hub knows this: nothing waits in the segment, and nothing can be sent there
+-- whatever state its table is in, if the hub knows this: nothing can be sent in the segment
+abbrev pub IsClosedOff : {T : Type 0} → Home T → Type 0
+IsClosedOff {T} h = (s : SegmentState T) → Keeps s → (n : ℕ) → IsViewOf s n (hub_view h.hub) → IsOver s
+
+-- and nothing waits there
 abbrev pub IsFinished : {T : Type 0} → Home T → Type 0
 IsFinished {T} h = (s : SegmentState T) (k : Keeps s) (n : ℕ) → IsViewOf s n (hub_view h.hub)
     → IsOver s × (k.history.rest ≡ [])

@@ -1,5 +1,6 @@
 -- What an end sent and received in all, and which channel it belongs to.
-use Rattle.std.specs.Prelude.{◌≡◌, List, [], map, true, IfSome}
+use Rattle.std.specs.Prelude.{◌≡◌, ◌⊎◌, List, [], map, true, IfSome, Some, is_some}
+use Rattle.mb_segment.specs.Vocabulary.{is_over}
 use Rattle.mb_channel.specs.Types.{Knows}
 use Rattle.mb_channel.specs.declared.channel.Channel.{Channel}
 use Rattle.mb_channel.specs.declared.end.End.{End}
@@ -29,6 +30,10 @@ IsFresh e = (sent_by e ≡ []) × (got_by e ≡ []) × ((view_of e).ended ≡ []
 abbrev pub IsEndOf : {T : Type 0} → Channel T → End T → Type 0
 IsEndOf c e = e.chair.table_id ≡ c.list.table.shared.table_id
 
+-- if it knew that the list is closed, or that no sender is left, it still does
+abbrev pub StaysTold : {T : Type 0} → Knows T → Knows T → Type 0
+StaysTold v w = (v.shut ≡ true → w.shut ≡ true) × (v.alone ≡ true → w.alone ≡ true)
+
 -- the same end, later: no other was given back to it meanwhile, and it counts for as many senders and receivers
 pub record IsSame {T : Type 0} (old new : End T) : Type 0 where
   pub list : new.chair.table_id ≡ old.chair.table_id
@@ -36,7 +41,30 @@ pub record IsSame {T : Type 0} (old new : End T) : Type 0 where
   pub ended : (view_of new).ended ≡ (view_of old).ended
   pub sends : (view_of new).sends ≡ (view_of old).sends
   pub receives : (view_of new).receives ≡ (view_of old).receives
+  pub told : StaysTold (view_of old) (view_of new)
 
--- in the segment where the end is, no value can come any more
+-- the view of an end that left its segment: the end is the same, and it counts for as many
+pub record IsLeft {T : Type 0} (old new : Knows T) : Type 0 where
+  pub number : new.number ≡ old.number
+  pub ended : new.ended ≡ old.ended
+  pub rights : new.rights ≡ old.rights
+  pub sends : new.sends ≡ old.sends
+  pub receives : new.receives ≡ old.receives
+  pub told : (new.alone ≡ old.alone) × (new.shut ≡ old.shut) × (new.last ≡ old.last)
+
+-- it was told that it is behind the last segment, for ever: the list is closed, or no sender is left
+abbrev pub IsBehind : {T : Type 0} → End T → Type 0
+IsBehind e = ((view_of e).last ≡ Some (view_of e).at)
+    × (((view_of e).shut ≡ true) ⊎ (((view_of e).alone ≡ true) × ((view_of e).sends ≡ 0)))
+
+-- it was told how many segments there are, for ever. Each is over
+abbrev pub HasEnded : {T : Type 0} → End T → Type 0
+HasEnded e = is_some (view_of e).last ≡ true
+
+-- in the segment where the end is, nothing can be sent any more
+abbrev pub SawOver : {T : Type 0} → End T → Type 0
+SawOver e = IfSome e.inside (λ i. is_over i.pass.seat.me.0 ≡ true)
+
+-- and no value can come any more
 abbrev pub IsOver : {T : Type 0} → End T → Type 0
 IsOver e = IfSome e.inside (λ i. i.over ≡ true)

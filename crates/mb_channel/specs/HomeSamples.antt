@@ -1,6 +1,6 @@
 -- Samples of the list of segments. End 0 sent 10 and 11 in segment 0, and 12 in segment 1. End 1 took 10.
 use Rattle.std.specs.Prelude.{ℕ, List, [], ◌∷◌}
-use Rattle.mb_channel.specs.Types.{Knows, Visit}
+use Rattle.mb_channel.specs.Types.{Knows, Past, Visit}
 use Rattle.mb_channel.specs.Homes.{Made}
 use Rattle.mb_channel.specs.LifeSamples.{last_end, one_got, one_sent, two_sent, visit}
 
@@ -18,6 +18,14 @@ one_take = made 0 (visit 1 one_got) ∷ []
 abbrev pub all_visits : List (Made ℕ)
 all_visits = made 0 (visit 1 one_sent) ∷ made 1 (visit 0 one_got) ∷ one_visit
 
+-- end 1 was in no segment
+abbrev pub idle_end : Past ℕ
+idle_end = record { number = 1; visits = [] }
+
 -- the last end has left segment 1
 abbrev pub last_of_two : Knows ℕ
 last_of_two = record last_end { at = 2 }
+
+-- end 1 was given back to it twice
+abbrev pub given_twice : Knows ℕ
+given_twice = record last_end { ended = idle_end ∷ idle_end ∷ [] }

@@ -8,7 +8,7 @@ use lib.ListN.{get_elem?}
 use Rattle.atomic_table.specs.Table.{Allows, Me, State, Step, step}
 use Rattle.atomic_table.specs.declared.shared.Seat.{Seat}
 use Rattle.mb_channel.specs.Types.{Account, Arc, Global, Home, Homes, Knows, Pass, Past, Segment, View, Visit, arc_value}
-use Rattle.mb_segment.specs.Vocabulary.{IsWhole as SegmentIsWhole, hub_view}
+use Rattle.mb_segment.specs.Vocabulary.{IsWhole as SegmentIsWhole, hub_view, is_over, issued, new_hub, took_back}
 
 -- ---- the visits of all ends, the newest first
 pub record Made (T : Type 0) : Type 0 where
@@ -42,6 +42,10 @@ came_back h = (hub_view h.hub).ends
 abbrev pub IsDone : {T : Type 0} → Home T → Type 0
 IsDone h = (hub_view h.hub).over ≡ true
 
+-- the hub knows that the segment is over: nothing can be sent there any more
+abbrev pub IsOver : {T : Type 0} → Home T → Type 0
+IsOver h = is_over (hub_view h.hub) ≡ true
+
 -- how many of its passes are out
 abbrev pub out_of : {T : Type 0} → Home T → ℕ
 out_of h = (hub_view h.hub).out
@@ -72,14 +76,22 @@ At {T} hs k P = (h : Home T) × (get_elem? hs k ≡ some h) × P h
 abbrev pub IsNext : {T : Type 0} → List (Home T) → ℕ → Type 0
 IsNext hs k = (j : ℕ) → j < k → At hs j IsDone
 
+-- each segment before k is over
+abbrev pub AreOver : {T : Type 0} → List (Home T) → ℕ → Type 0
+AreOver hs k = (j : ℕ) → j < k → At hs j IsOver
+
+-- nothing can be sent in any segment but the last
+abbrev pub AreLed : {T : Type 0} → List (Home T) → Type 0
+AreLed hs = (j : ℕ) → suc j < length hs → At hs j IsOver
+
 -- segment k is there, or it may be the next one
 abbrev pub IsNear : {T : Type 0} → List (Home T) → ℕ → Type 0
 IsNear {T} hs k = (k ≡ 0) ⊎ ((j : ℕ) × (suc j ≡ k) × At hs j (λ _. Unit {0}))
 
--- the later list has the same segments, and what was done is done
+-- the later list has the same segments, and what was done or over still is
 abbrev pub Grows : {T : Type 0} → List (Home T) → List (Home T) → Type 0
 Grows {T} hs gs = (k : ℕ) (h : Home T) → get_elem? hs k ≡ some h
-    → At gs k (λ g. (g.segment ≡ h.segment) × (IsDone h → IsDone g))
+    → At gs k (λ g. (g.segment ≡ h.segment) × (IsDone h → IsDone g) × (IsOver h → IsOver g))
 
 -- the hubs know just the visits
 pub record Agrees {T : Type 0} (hs : List (Home T)) (all : List (Made T)) : Type 0 where
@@ -100,6 +112,7 @@ first_view = record {
   at = 0;
   place = None;
   takes = true;
+  orderly = true;
   ended = [];
   holds = false;
   before = [];
@@ -107,6 +120,7 @@ first_view = record {
   alone = false;
   shut = false;
   last = None;
+  found = None;
 }
 
 abbrev pub spent_view : {T : Type 0} → Knows T
@@ -133,12 +147,13 @@ tallies views mark = total rights views ∷ total sends views ∷ total receives
 abbrev pub IsShut : {T : Type 0} → ℕ → List (Knows T) → Type 0
 IsShut mark views = (mark ≡ 0) ⊎ (total sends views ≡ 0)
 
--- what a view says of the senders, the mark and the number of segments is so
+-- what a view says of the senders, the mark, and the segments, is so
 pub record FitsEnd {T : Type 0} (hs : List (Home T)) (mark : ℕ) (views : List (Knows T)) (v : Knows T) : Type 0 where
   pub may_add : v.may_add ≡ true → (v.holds ≡ true) × (0 < mark)
   pub alone : v.alone ≡ true → total sends views ≡ 0
   pub shut : v.shut ≡ true → mark ≡ 0
-  pub last : (n : ℕ) → v.last ≡ Some n → (length hs ≡ n) × IsShut mark views
+  pub over : v.orderly ≡ true → AreOver hs v.at
+  pub last : (n : ℕ) → v.last ≡ Some n → (length hs ≡ n) × IsShut mark views × AreOver hs n
 
 -- 1 for an end that has a pass of segment k
 abbrev pub is_in : {T : Type 0} → ℕ → Knows T → ℕ
@@ -152,6 +167,11 @@ times n (x ∷ xs) = n + times n xs
 abbrev pub past_count : {T : Type 0} → (ℕ → ℕ) → List (Past T) → ℕ
 past_count f [] = 0
 past_count f (p ∷ ps) = times (f p.number) p.visits + past_count f ps
+
+-- how many of them have this number
+abbrev pub how_many : {T : Type 0} → ℕ → List (Past T) → ℕ
+how_many n [] = 0
+how_many n (p ∷ ps) = (if nat_eq p.number n then 1 else 0) + how_many n ps
 
 abbrev pub count : {T : Type 0} → (ℕ → ℕ) → Knows T → ℕ
 count f v = times (f v.number) v.visits + past_count f v.ended
@@ -189,7 +209,7 @@ pub record Fits {T : Type 0} (hs : List (Home T)) (all : List (Made T)) (views :
   pub takes : v.takes ≡ true → IsNext hs v.at
   pub newborn : v.live ≡ false → (v.visits ≡ []) × (v.ended ≡ []) × (v.inside ≡ false) × (0 < v.rights
       → made_by id all ≡ [])
-  pub idle : v.rights ≡ 0 → (v.live ≡ false) × (v.holds ≡ false)
+  pub idle : v.rights ≡ 0 → v ≡ spent_view
   pub ended : AllPast (PastFits all views) v.ended
 
 abbrev pub NobodyHolds : {T : Type 0} → List (Knows T) → Type 0
@@ -213,9 +233,11 @@ pub record Keeps {T : Type 0} (s : State (Homes T) (Knows T)) : Type 0 where
   pub all : List (Made T)
   pub mark : ℕ
   pub lock : IsFree s homes mark ⊎ IsHeld s homes mark
+  pub leads : AreLed homes
   pub agrees : Agrees homes all
   pub crowd : (k : ℕ) (h : Home T) → get_elem? homes k ≡ some h → out_of h ≡ total (is_in k) s.views
   pub balance : (f : ℕ → ℕ) → total (count f) s.views ≡ made_count f all
+  pub once : (n : ℕ) → total (λ v. how_many n v.ended) s.views ≤ 1
   pub fresh : (n : ℕ) → length s.views ≤ n → made_by n all ≡ []
   pub fits : (id : ℕ) (v : Knows T) → get_elem? s.views id ≡ some v → Fits homes all s.views id v
   pub told : (id : ℕ) (v : Knows T) → get_elem? s.views id ≡ some v → FitsEnd homes mark s.views v
@@ -239,6 +261,10 @@ counts_more v = record v { rights = v.rights + 1 }
 abbrev pub past_of : {T : Type 0} → Knows T → Past T
 past_of v = record { number = v.number; visits = v.visits }
 
+abbrev pub told_or : Option ℕ → Option ℕ → Option ℕ
+told_or None b = b
+told_or (Some n) b = Some n
+
 abbrev pub both : {T : Type 0} → Knows T → Knows T → Knows T
 both v w = record v {
   rights = v.rights + w.rights;
@@ -247,6 +273,7 @@ both v w = record v {
   ended = v.ended ++ (past_of w ∷ w.ended);
   alone = v.alone || w.alone;
   shut = v.shut || w.shut;
+  last = told_or v.last w.last;
 }
 
 -- an end that was not there before. It begins where its maker is, counts for so many senders and receivers, and knows as
@@ -255,6 +282,7 @@ abbrev pub newborn_view : {T : Type 0} → ℕ → ℕ → Knows T → Knows T
 newborn_view a b v = record first_view {
   at = v.at;
   takes = v.takes;
+  orderly = v.orderly;
   sends = a;
   receives = b;
   alone = v.alone;
@@ -266,13 +294,15 @@ newborn_view a b v = record first_view {
 abbrev pub splits_off : {T : Type 0} → ℕ → ℕ → Knows T → Knows T
 splits_off a b v = record v { rights = v.rights - 1; sends = v.sends - a; receives = v.receives - b }
 
--- it has left its segment, in which it did this. If that is done, it may receive in the next one if it could in that
-abbrev pub left_segment : {T : Type 0} → Account T → Bool → Knows T → Knows T
-left_segment a done v = record v {
-  visits = record { segment = v.at; account = a } ∷ v.visits;
+-- it has left its segment, of which its pass knows this. If that is done, it may receive in the next one if it could in
+-- that. It was orderly only if the pass was told that the segment is over
+abbrev pub left_segment : {T : Type 0} → View T → Bool → Knows T → Knows T
+left_segment x done v = record v {
+  visits = record { segment = v.at; account = x.account } ∷ v.visits;
   inside = false;
   at = suc v.at;
   takes = v.takes && done;
+  orderly = v.orderly && is_over x;
 }
 
 -- all segments before k are freed: it goes on to that one, and may receive there
@@ -308,30 +338,30 @@ abbrev pub gets_number : {T : Type 0} → Step (Homes T) → Sat T → ℕ → S
 gets_number st m r n = (id : ℕ) × (n ≡ (record m.0 { live = true; number = id }, m.1))
 
 -- ---- what a hub did under the lock
--- it took back a pass with this view
+-- it took back a pass with this view, and knows that much more
 abbrev pub HasTakenBack : {T : Type 0} → Home T → Home T → View T → Type 0
-HasTakenBack h g v = (g.segment ≡ h.segment) × (came_back g ≡ v.account ∷ came_back h) × (IsDone h → IsDone g)
-    × (v.over ≡ true → IsDone g) × (out_of g ≡ out_of h - 1)
+HasTakenBack h g v = (g.segment ≡ h.segment) × (hub_view g.hub ≡ took_back (hub_view h.hub) v)
 
 -- it issued this pass, with a share of the segment, and knows no more than before
 abbrev pub HasIssued : {T : Type 0} → Home T → Home T → Arc (Segment T Global) Global → Pass T → Type 0
-HasIssued h g s p = (g.segment ≡ h.segment) × (came_back g ≡ came_back h) × (IsDone h → IsDone g)
-    × (out_of g ≡ out_of h + 1) × (arc_value s ≡ arc_value g.segment) × (p.seat.table_id ≡ g.hub.seat.table_id)
+HasIssued h g s p = (g.segment ≡ h.segment) × (hub_view g.hub ≡ issued (hub_view h.hub))
+    × (arc_value s ≡ arc_value g.segment) × (p.seat.table_id ≡ g.hub.seat.table_id)
 
 -- the home at k has changed so
 abbrev pub Changes : {T : Type 0} → List (Home T) → List (Home T) → ℕ → (Home T → Home T → Type 0) → Type 0
 Changes {T} hs gs k P = (h : Home T) × (g : Home T) × (get_elem? hs k ≡ some h) × (gs ≡ slice_set hs k g) × P h g
 
 abbrev pub IsNew : {T : Type 0} → Home T → Type 0
-IsNew h = (came_back h ≡ []) × (out_of h ≡ 0)
+IsNew h = hub_view h.hub ≡ new_hub
 
--- the list, with a new segment more or not
-abbrev pub Longer : {T : Type 0} → List (Home T) → List (Home T) → Type 0
-Longer {T} hs gs = (gs ≡ hs) ⊎ ((h : Home T) × IsNew h × (gs ≡ hs ++ h ∷ []))
+-- the list, with a new segment at place k or not
+abbrev pub Longer : {T : Type 0} → ℕ → List (Home T) → List (Home T) → Type 0
+Longer {T} k hs gs = (gs ≡ hs) ⊎ ((h : Home T) × IsNew h × (gs ≡ hs ++ h ∷ []) × (length hs ≡ k))
 
--- an end that has the lock may leave this list: as it was; or longer, if the end sends and saw that the list is not closed
+-- an end that has the lock may leave this list: as it was; or longer by a segment at its place, if the end sends, saw that
+-- the list is not closed, and was orderly
 abbrev pub MayLeave : {T : Type 0} → Knows T → List (Home T) → Type 0
-MayLeave v hs = (hs ≡ v.before) ⊎ ((0 < v.sends) × (v.may_add ≡ true) × Longer v.before hs)
+MayLeave v hs = (hs ≡ v.before) ⊎ ((0 < v.sends) × (v.may_add ≡ true) × (v.orderly ≡ true) × Longer v.at v.before hs)
 
 -- the pass is of this segment
 abbrev pub IsPassOf : {T : Type 0} → Option (Arc (Segment T Global) Global) → Pass T → Type 0
@@ -348,12 +378,15 @@ IsNone n [] = Unit {0}
 IsNone n (p ∷ ps) = (p.number ≢ n) × IsNone n ps
 
 -- once an end has taken back all others: what each did in which segment is what the hubs know, and nobody else did
--- anything. If it has left its own segment, no pass is out
+-- anything. No two of the ends have the same number. Nothing could be sent in any segment but the last. If the last end
+-- has left its own, no pass is out
 pub record IsWhole {T : Type 0} (v : Knows T) (hs : List (Home T)) : Type 0 where
   pub all : List (Made T)
+  pub leads : AreLed hs
   pub agrees : Agrees hs all
   pub own : (v.visits ≡ made_by v.number all) × Falls v.at v.visits
   pub others : AllPast (λ p. (p.visits ≡ made_by p.number all) × ((b : ℕ) × Falls b p.visits)) v.ended
+  pub once : (n : ℕ) → how_many n (past_of v ∷ v.ended) ≤ 1
   pub nobody : (n : ℕ) → v.number ≢ n → IsNone n v.ended → made_by n all ≡ []
   pub empty : v.inside ≡ false → AllHomes (λ h. out_of h ≡ 0) hs
 

@@ -5,7 +5,8 @@ use Rattle.mb_channel.specs.ChannelTheorem.{End, History, IsOver, Moment, Segmen
 -- a segment's own rule
 pub record Keeps {T : Type 0} (s : Segment T) : Type 0 where
   pub unvisited : s.is_visited ≡ false → (s.history.claims ≡ []) × (s.sleepers.asleep ≡ 0)
-  pub quiet : (s.sleepers.asleep ≤ s.sleepers.tokens) ⊎ (length s.history.rest ≤ s.sleepers.tokens + s.sleepers.owed)
+  pub quiet : (s.sleepers.asleep ≤ s.sleepers.tokens)
+      ⊎ (length s.history.rest ≤ s.sleepers.tokens + s.sleepers.owed + s.sleepers.owed_to_all)
   pub shut : s.is_over ≡ true → (s.sleepers.asleep ≤ s.sleepers.tokens) ⊎ (0 < s.sleepers.owed_to_all)
 
 abbrev pub EachKeeps : {T : Type 0} → List (Segment T) → Type 0

@@ -1,5 +1,5 @@
 -- The numbers of ends, senders and receivers, and the end of the list.
-use Rattle.std.specs.Prelude.{ℕ, Bool, Some, false, true, ◌+◌, ◌-◌, ◌≡◌, ◌≢◌, ◌⊎◌}
+use Rattle.std.specs.Prelude.{ℕ, Bool, Some, false, true, ◌+◌, ◌-◌, ◌≡◌, ◌≢◌, ◌≤◌, ◌⊎◌}
 use Rattle.atomic_table.specs.Table.{Step}
 use Rattle.mb_channel.specs.Types.{Homes, Knows}
 use Rattle.mb_channel.specs.Homes.{Sat}
@@ -17,9 +17,10 @@ retires_sender last v = record v { sends = v.sends - 1; alone = last }
 abbrev pub retires_receiver : {T : Type 0} → Knows T → Knows T
 retires_receiver v = record v { receives = v.receives - 1 }
 
--- an exchange of a number changes the view so
-abbrev pub counting : {T : Type 0} → (ℕ → Knows T → Knows T) → Step (Homes T) → Sat T → ℕ → Sat T → Type 0
-counting f st m r n = (n.1 ≡ m.1) × (r ≡ st.first → n.0 ≡ f r m.0) × (r ≢ st.first → n.0 ≡ m.0)
+-- an exchange of a number changes the view so. The number found is no less than what the end counts for
+abbrev pub counting : {T : Type 0} → (Knows T → ℕ) → (ℕ → Knows T → Knows T) → Step (Homes T) → Sat T → ℕ → Sat T
+    → Type 0
+counting of f st m r n = (n.1 ≡ m.1) × (r ≡ st.first → n.0 ≡ f r m.0) × (r ≢ st.first → n.0 ≡ m.0) × (of m.0 ≤ r)
 
 -- it saw that no sender is left, or that the list is closed
 abbrev pub saw_none : {T : Type 0} → Knows T → Knows T
@@ -34,7 +35,7 @@ saw_open v = record v { may_add = v.holds }
 
 -- a load of the number of senders, and of the mark
 abbrev pub sees_senders : {T : Type 0} → Step (Homes T) → Sat T → ℕ → Sat T → Type 0
-sees_senders st m r n = (n.1 ≡ m.1) × (r ≡ 0 → n.0 ≡ saw_none m.0) × (r ≢ 0 → n.0 ≡ m.0)
+sees_senders st m r n = (n.1 ≡ m.1) × (r ≡ 0 → (n.0 ≡ saw_none m.0) × (m.0.sends ≡ 0)) × (r ≢ 0 → n.0 ≡ m.0)
 
 abbrev pub sees_mark : {T : Type 0} → Step (Homes T) → Sat T → ℕ → Sat T → Type 0
 sees_mark st m r n = (n.1 ≡ m.1) × (r ≡ 0 → n.0 ≡ saw_closed m.0)
@@ -44,9 +45,14 @@ sees_mark st m r n = (n.1 ≡ m.1) × (r ≡ 0 → n.0 ≡ saw_closed m.0)
 abbrev pub closing : {T : Type 0} → Step (Homes T) → Sat T → ℕ → Sat T → Type 0
 closing st m r n = (n.1 ≡ m.1) × (n.0 ≡ record m.0 { may_add = false; shut = true })
 
--- it is told that there are just n segments, for ever: it saw that the list is closed or that no sender is left
+-- it is told that there are just n segments, for ever: it saw that the list is closed or that no sender is left. So each
+-- of them is over
 abbrev pub told_last : {T : Type 0} → ℕ → Knows T → Knows T
 told_last n v = record v { last = Some n }
 
+-- it found just n segments
+abbrev pub found_none : {T : Type 0} → ℕ → Knows T → Knows T
+found_none n v = record v { found = Some n }
+
 abbrev pub IsTold : {T : Type 0} → ℕ → Knows T → Knows T → Type 0
-IsTold n v w = (w ≡ told_last n (saw_closed v)) ⊎ (w ≡ told_last n (saw_none v))
+IsTold n v w = (w ≡ told_last n (saw_closed v)) ⊎ ((w ≡ told_last n (saw_none v)) × (v.sends ≡ 0))

@@ -10,7 +10,7 @@ use std::alloc::Global;
 pub enum Refused {
     /// The allocator refused the memory for the next segment.
     NoMemory,
-    /// The channel is closed, or no sender is left.
+    /// The channel is closed, or no sender is left. For a receiver: and nothing waits in it, for ever.
     Closed,
     /// So many ends are in a segment, or there were so many segments, that they cannot be counted.
     Crowded,
@@ -29,17 +29,21 @@ fn size_at(at: usize) -> u32 {
 }
 
 impl<T: Drop> Channel<T> {
-    ghost use Rattle.std.specs.Prelude.{◌≡◌, ◌<◌, true, false, is_some};
-    ghost use Rattle.mb_channel.specs.Ends.{IsEndOf, IsOver, IsSame, got_by, sent_by, view_of};
+    ghost use Rattle.std.specs.Prelude.{◌≡◌, ◌<◌, true, false, is_some, IfErr, IfOk};
+    ghost use Rattle.mb_channel.specs.Answers.{IfClosed};
+    ghost use Rattle.mb_channel.specs.Receives.{FoundNone, IsLater};
+    ghost use Rattle.mb_channel.specs.Ends.{IsBehind, IsEndOf, IsOver, IsSame, SawOver, got_by, sent_by, view_of};
 
     /// Adds a segment where the end is, if there is none yet.
     fn append(&self, end: &mut End<T>) -> Result<(), Refused>
         requires channel { IsEndOf self.now end.old }
         requires sender { 0 < (view_of end.old).sends }
         ensures end { IsSame end.old end.new }
+        ensures later { IsLater end.old end.new }
         ensures sent { sent_by end.new ≡ sent_by end.old }
         ensures got { got_by end.new ≡ got_by end.old }
         ensures takes { (view_of end.new).takes ≡ (view_of end.old).takes }
+        ensures closed { IfErr result (λ why. IfClosed why ((view_of end.new).shut ≡ true)) }
     {
         let at = end.at;
         match self
@@ -53,16 +57,18 @@ impl<T: Drop> Channel<T> {
         }
     }
 
-    /// Tries to come to the segment at the end's place. If there is none yet, a sender adds one.
-    fn come(&self, end: &mut End<T>, takes: bool) -> Result<(), Refused>
+    /// Tries to come to the segment at the end's place. It is `false` if there is none yet.
+    pub(crate) fn reach(&self, end: &mut End<T>, takes: bool) -> Result<bool, Refused>
         requires channel { IsEndOf self.now end.old }
         requires outside { is_some end.old.inside ≡ false }
         requires side { takes ≡ true → (view_of end.old).takes ≡ true }
-        requires sender { takes ≡ false → 0 < (view_of end.old).sends }
         ensures end { IsSame end.old end.new }
+        ensures later { IsLater end.old end.new }
         ensures sent { sent_by end.new ≡ sent_by end.old }
         ensures got { got_by end.new ≡ got_by end.old }
         ensures takes { takes ≡ true → (view_of end.new).takes ≡ true }
+        ensures none { IfOk result (λ there. there ≡ false → FoundNone end.new) }
+        ensures closed { IfErr result (λ why. IfClosed why (IsBehind end.new)) }
     {
         let at = end.at;
         if at == usize::MAX {
@@ -76,23 +82,49 @@ impl<T: Drop> Channel<T> {
                     pass,
                     over: false,
                 });
-                Ok(())
+                Ok(true)
             }
             Came::Gone(first) => {
                 end.at = first;
-                Ok(())
+                Ok(true)
             }
-            Came::NotYet => { if takes { Ok(()) } else { self.append(end) } }
+            Came::NotYet => Ok(false),
             Came::Closed => Err(Refused::Closed),
             Came::Crowded => Err(Refused::Crowded),
-            Came::Locked => Ok(()),
+            Came::Locked => Ok(true),
         }
     }
 
-    /// Tries to leave the segment where the end is. An end that is in none has left.
+    /// The same, and if there is none yet, a sender adds one.
+    fn come(&self, end: &mut End<T>, takes: bool) -> Result<bool, Refused>
+        requires channel { IsEndOf self.now end.old }
+        requires outside { is_some end.old.inside ≡ false }
+        requires side { takes ≡ true → (view_of end.old).takes ≡ true }
+        requires sender { takes ≡ false → 0 < (view_of end.old).sends }
+        ensures end { IsSame end.old end.new }
+        ensures later { IsLater end.old end.new }
+        ensures sent { sent_by end.new ≡ sent_by end.old }
+        ensures got { got_by end.new ≡ got_by end.old }
+        ensures takes { takes ≡ true → (view_of end.new).takes ≡ true }
+        ensures none { IfOk result (λ there. there ≡ false → FoundNone end.new) }
+        ensures behind { takes ≡ true → IfErr result (λ why. IfClosed why (IsBehind end.new)) }
+        ensures shut { takes ≡ false
+            → IfErr result (λ why. IfClosed why ((view_of end.new).shut ≡ true)) }
+    {
+        let there = self.reach(end, takes)?;
+        if there || takes {
+            return Ok(there);
+        }
+        self.append(end)?;
+        Ok(true)
+    }
+
+    /// Tries to leave the segment where the end is, which is over. An end that is in none has left.
     pub(crate) fn leave(&self, end: &mut End<T>) -> bool
         requires channel { IsEndOf self.now end.old }
+        requires over { SawOver end.old }
         ensures end { IsSame end.old end.new }
+        ensures later { IsLater end.old end.new }
         ensures sent { sent_by end.new ≡ sent_by end.old }
         ensures got { got_by end.new ≡ got_by end.old }
         ensures takes { (view_of end.old).takes ≡ true → IsOver end.old
@@ -126,20 +158,26 @@ impl<T: Drop> Channel<T> {
     }
 
     /// Goes on: leaves the segment where the end is, or comes to the next one. It is a try, which may change nothing if
-    /// the lock is taken.
-    pub(crate) fn go_on(&self, end: &mut End<T>, takes: bool) -> Result<(), Refused>
+    /// the lock is taken. It is `false` for a receiver if the next one is not there yet.
+    pub(crate) fn go_on(&self, end: &mut End<T>, takes: bool) -> Result<bool, Refused>
         requires channel { IsEndOf self.now end.old }
         requires side { takes ≡ true → (view_of end.old).takes ≡ true }
         requires sender { takes ≡ false → 0 < (view_of end.old).sends }
-        requires over { takes ≡ true → IsOver end.old }
+        requires done { takes ≡ true → IsOver end.old }
+        requires over { SawOver end.old }
         ensures end { IsSame end.old end.new }
+        ensures later { IsLater end.old end.new }
         ensures sent { sent_by end.new ≡ sent_by end.old }
         ensures got { got_by end.new ≡ got_by end.old }
         ensures takes { takes ≡ true → (view_of end.new).takes ≡ true }
+        ensures none { IfOk result (λ there. there ≡ false → FoundNone end.new) }
+        ensures behind { takes ≡ true → IfErr result (λ why. IfClosed why (IsBehind end.new)) }
+        ensures shut { takes ≡ false
+            → IfErr result (λ why. IfClosed why ((view_of end.new).shut ≡ true)) }
     {
         if end.inside.is_some() {
             self.leave(end);
-            Ok(())
+            Ok(true)
         } else {
             self.come(end, takes)
         }

@@ -25,6 +25,7 @@ pub struct End<T: Drop> {
     ghost counted: { rights < 18446744073709551615 → (view_in chair).rights ≡ rights },
     ghost inside_: { (view_in chair).inside ≡ is_some inside },
     ghost place: { is_some inside ≡ true → (view_in chair).place ≡ share_in inside },
+    ghost orderly: { (view_in chair).orderly ≡ true },
     ghost poor: { (view_in chair).takes ≡ false → got_there inside ≡ [] },
     ghost room: { is_some inside ≡ true → at < 18446744073709551615 },
 }
@@ -33,7 +34,7 @@ pub struct End<T: Drop> {
 #[derive(Drop)]
 pub struct Sender<T: Drop> {
     pub(crate) end: End<T>,
-    ghost sends: { 0 < (view_in end.chair).sends },
+    ghost sends: { (view_in end.chair).sends ≡ 1 },
 }
 
 /// An end that receives.
@@ -45,8 +46,8 @@ pub struct Receiver<T: Drop> {
 }
 
 impl<T: Drop> End<T> {
-    ghost use Rattle.std.specs.Prelude.{◌++◌, ◌∷◌, IfErr, IfNone, IfSome, OnOk};
-    ghost use Rattle.mb_channel.specs.Ends.{IsOver, got_by, sent_by, view_of};
+    ghost use Rattle.std.specs.Prelude.{◌++◌, ◌∷◌, IfErr, IfNone, IfSome, OnErr, OnOk};
+    ghost use Rattle.mb_channel.specs.Ends.{IsOver, SawOver, got_by, sent_by, view_of};
 
     /// Sends a value in the segment where the end is. It comes back if the end is in none, or if no more can be sent
     /// there.
@@ -54,6 +55,7 @@ impl<T: Drop> End<T> {
         ensures chair { self.new.chair ≡ self.old.chair }
         ensures sent { OnOk result (sent_by self.new ≡ sent_by self.old ++ value ∷ []) }
         ensures back { IfErr result (λ x. (x ≡ value) × (sent_by self.new ≡ sent_by self.old)) }
+        ensures over { OnErr result (SawOver self.new) }
         ensures got { got_by self.new ≡ got_by self.old }
     {
         let Some(inside) = self.inside.take() else {
@@ -84,17 +86,18 @@ impl<T: Drop> End<T> {
     ghost use Rattle.std.specs.Prelude.{◌++◌, ◌∷◌, IfNone, IfSome};
     ghost use Rattle.mb_segment.specs.Waiting.{OfReceived};
     ghost use Rattle.mb_channel.specs.Ends.{IsOver, got_by, sent_by, view_of};
-    ghost use Rattle.mb_channel.specs.Receives.{OfTried, SawEmpty};
+    ghost use Rattle.mb_channel.specs.Receives.{IsLater, OfTried, SawEmpty};
 
     /// Receives a value in the segment where the end is, until a deadline. An end that is in none is told that none can
     /// come there.
     pub(crate) fn receive_by<R: Wait + Clock>(&mut self, rt: &R, deadline: Instant) -> Received<T>
         requires takes { (view_of self.old).takes ≡ true }
         ensures chair { self.new.chair ≡ self.old.chair }
+        ensures later { IsLater self.old self.new }
         ensures answer { OfReceived result
             (λ x. got_by self.new ≡ got_by self.old ++ x ∷ [])
             (IsOver self.new × (got_by self.new ≡ got_by self.old))
-            (SawEmpty self.new × (got_by self.new ≡ got_by self.old)) }
+            (SawEmpty self.old self.new × (got_by self.new ≡ got_by self.old)) }
         ensures sent { sent_by self.new ≡ sent_by self.old }
     {
         let Some(inside) = self.inside.take() else {
@@ -110,9 +113,10 @@ impl<T: Drop> End<T> {
     pub(crate) fn try_receive(&mut self) -> Option<Tried<T>>
         requires takes { (view_of self.old).takes ≡ true }
         ensures chair { self.new.chair ≡ self.old.chair }
+        ensures later { IsLater self.old self.new }
         ensures answer { IfSome result (λ t. OfTried t
             (λ x. got_by self.new ≡ got_by self.old ++ x ∷ [])
-            (SawEmpty self.new × (got_by self.new ≡ got_by self.old))
+            (SawEmpty self.old self.new × (got_by self.new ≡ got_by self.old))
             (got_by self.new ≡ got_by self.old)) }
         ensures none { IfNone result (IsOver self.new × (got_by self.new ≡ got_by self.old)) }
         ensures sent { sent_by self.new ≡ sent_by self.old }

@@ -8,7 +8,7 @@ ghost use Rattle.mb_channel.specs.Rests.{IsEnding};
 ghost use Rattle.mb_channel.specs.Ends.{IsEndOf, given_to, log_of};
 
 use crate::channel::Channel;
-use crate::end::{End, Receiver};
+use crate::end::Receiver;
 use crate::home::Homes;
 use crate::list::{Chair, List};
 use crate::rest::Ending;
@@ -25,12 +25,7 @@ impl<T: Drop> Channel<T> {
             ≡ log_of receiver.end ∷ given_to receiver.end)) }
     {
         let Receiver { end } = receiver;
-        let End {
-            chair,
-            at: _,
-            rights,
-            inside: _,
-        } = self.outside(rt, end);
+        let (chair, rights) = self.outside(rt, end);
         let Channel { list, alloc } = self;
         let homes = list.end(chair, rights)?;
         Some(Ending::new(homes, alloc))

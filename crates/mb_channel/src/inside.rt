@@ -23,6 +23,7 @@ pub struct Inside<T: Drop> {
 
 impl<T: Drop> Inside<T> {
     ghost use Rattle.std.specs.Prelude.{◌++◌, ◌∷◌, [], true, IfErr, IfNone, IfSome, OnOk};
+    ghost use Rattle.mb_segment.specs.Vocabulary.{is_over};
     ghost use Rattle.mb_channel.specs.Inside.{account_in, values};
 
     /// Sends a value here. It comes back if no more can be sent here.
@@ -31,7 +32,8 @@ impl<T: Drop> Inside<T> {
         ensures sent { OnOk result.1 (values (account_in result.0).sent
             ≡ values (account_in self).sent ++ value ∷ []) }
         ensures back { IfErr result.1 (λ x. (x ≡ value)
-            × ((account_in result.0).sent ≡ (account_in self).sent)) }
+            × ((account_in result.0).sent ≡ (account_in self).sent)
+            × (is_over result.0.pass.seat.me.0 ≡ true)) }
         ensures got { (account_in result.0).got ≡ (account_in self).got }
     {
         let Inside {
@@ -69,10 +71,10 @@ impl<T: Drop> Inside<T> {
 }
 
 impl<T: Drop> Inside<T> {
-    ghost use Rattle.std.specs.Prelude.{◌++◌, ◌∷◌, [], true, IfNone, IfSome};
+    ghost use Rattle.std.specs.Prelude.{◌++◌, ◌∷◌, ◌≤◌, [], true, IfNone, IfSome};
     ghost use Rattle.mb_segment.specs.Waiting.{OfReceived};
     ghost use Rattle.mb_channel.specs.Inside.{account_in, values};
-    ghost use Rattle.mb_channel.specs.Receives.{OfTried, SawNothing};
+    ghost use Rattle.mb_channel.specs.Receives.{OfTried, SawNothing, found_in};
 
     /// Receives a value here, until a deadline.
     pub(crate) fn receive_by<R: Wait + Clock>(
@@ -84,7 +86,8 @@ impl<T: Drop> Inside<T> {
         ensures answer { OfReceived result.1
             (λ x. values (account_in result.0).got ≡ values (account_in self).got ++ x ∷ [])
             ((result.0.over ≡ true) × ((account_in result.0).got ≡ (account_in self).got))
-            (SawNothing result.0 × ((account_in result.0).got ≡ (account_in self).got)) }
+            (SawNothing self result.0 × ((account_in result.0).got ≡ (account_in self).got)) }
+        ensures found { found_in self ≤ found_in result.0 }
         ensures sent { (account_in result.0).sent ≡ (account_in self).sent }
     {
         let Inside {
@@ -105,10 +108,11 @@ impl<T: Drop> Inside<T> {
         ensures segment { result.0.segment ≡ self.segment }
         ensures answer { IfSome result.1 (λ t. OfTried t
             (λ x. values (account_in result.0).got ≡ values (account_in self).got ++ x ∷ [])
-            (SawNothing result.0 × ((account_in result.0).got ≡ (account_in self).got))
+            (SawNothing self result.0 × ((account_in result.0).got ≡ (account_in self).got))
             ((account_in result.0).got ≡ (account_in self).got)) }
         ensures over { IfNone result.1 ((result.0.over ≡ true)
             × ((account_in result.0).got ≡ (account_in self).got)) }
+        ensures found { found_in self ≤ found_in result.0 }
         ensures sent { (account_in result.0).sent ≡ (account_in self).sent }
     {
         let Inside {

@@ -1,12 +1,12 @@
 //! The laws of a channel. The functions compute nothing: their contracts are the laws.
-ghost use Rattle.std.specs.Prelude.{ℕ, List, Some, length, true, ◌≡◌};
+ghost use Rattle.std.specs.Prelude.{ℕ, List, Some, length, suc, true, ◌<◌, ◌≡◌};
 ghost use mathlib.Core.Option.{some};
 ghost use lib.ListN.{get_elem?};
 ghost use Rattle.mb_channel.specs.ChannelTheorem.{EachMoment, End, History, Moment, Segment, WholeLife, life};
 ghost use Rattle.mb_channel.specs.Stays.{AreStays, Told, life_of};
 ghost use Rattle.mb_channel.specs.Types.{Home, Knows};
-ghost use Rattle.mb_channel.specs.Closing.{IsFinished, ListState};
-ghost use Rattle.mb_channel.specs.Homes.{AllHomes, IsShut, IsWhole, Keeps, sends, total};
+ghost use Rattle.mb_channel.specs.Closing.{IsClosedOff, IsFinished, ListState};
+ghost use Rattle.mb_channel.specs.Homes.{AllHomes, At, IsShut, IsWhole, Keeps, sends, total};
 ghost use Rattle.mb_channel.specs.Lives.{HaveEnded, HaveLived, all_left, end_in};
 ghost use Rattle.mb_channel.specs.Segments.{AreLogs, EachKeeps, InTurn, KeepsEnd, TakenInTurn};
 ghost use Rattle.mb_channel.specs.Told.{AllTell};
@@ -47,16 +47,27 @@ pub fn lives_have_the_logs<T: Drop>()
 {}
 
 /// Of each moment: where an end was told that there are so many segments, there are, and no more will come, for the list
-/// is closed or no sender is left. If the end is a receiver, nothing waits in any of them, and nothing can be sent there.
+/// is closed or no sender is left. Nothing can be sent in any of them. If the end is a receiver behind the last, nothing
+/// waits there either. Each end stands behind segments that are over, and behind a receiver nothing waits.
 pub fn closed_is_true<T: Drop>()
     ensures last { (c : ListState T) (k : Keeps c) (id n : ℕ) (v : Knows T)
         → get_elem? c.views id ≡ some v → v.last ≡ Some n
-        → (length k.homes ≡ n) × IsShut k.mark c.views }
+        → (length k.homes ≡ n) × IsShut k.mark c.views × AllHomes IsClosedOff k.homes }
     ensures empty { (c : ListState T) (k : Keeps c) (id n : ℕ) (v : Knows T)
         → get_elem? c.views id ≡ some v → v.last ≡ Some n → v.takes ≡ true → v.at ≡ n
         → AllHomes IsFinished k.homes }
     ensures alone { (c : ListState T) (k : Keeps c) (id : ℕ) (v : Knows T)
         → get_elem? c.views id ≡ some v → v.alone ≡ true → total sends c.views ≡ 0 }
+    ensures shut { (c : ListState T) (k : Keeps c) (id : ℕ) (v : Knows T)
+        → get_elem? c.views id ≡ some v → v.shut ≡ true → k.mark ≡ 0 }
+    ensures over { (c : ListState T) (k : Keeps c) (id j : ℕ) (v : Knows T)
+        → get_elem? c.views id ≡ some v → v.orderly ≡ true → j < v.at
+        → At k.homes j IsClosedOff }
+    ensures leads { (c : ListState T) (k : Keeps c) (j : ℕ) → suc j < length k.homes
+        → At k.homes j IsClosedOff }
+    ensures behind { (c : ListState T) (k : Keeps c) (id j : ℕ) (v : Knows T)
+        → get_elem? c.views id ≡ some v → v.takes ≡ true → j < v.at
+        → At k.homes j IsFinished }
 {
     mb_segment::laws::over_is_true::<T>();
 }

@@ -14,8 +14,10 @@ mod answers;
 mod channel;
 #[cfg(test)]
 mod closing_tests;
+mod cutting;
 mod end;
 mod ending;
+mod giving;
 mod home;
 pub mod home_samples;
 mod inside;

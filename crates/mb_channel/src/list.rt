@@ -86,7 +86,7 @@ impl<T: Drop> List<T> {
         requires homes { HoldsHomes chair.old.me (λ hs. hs ≡ (view_in chair.old).before) }
         ensures list { (chair.new.table_id ≡ chair.old.table_id) × (chair.new.id ≡ chair.old.id) }
         ensures view { view_in chair.new ≡ view_in chair.old }
-        ensures homes { HoldsHomes chair.new.me (Longer (view_in chair.old).before) }
+        ensures homes { HoldsHomes chair.new.me (Longer at (view_in chair.old).before) }
     {
         let homes = chair.slot_mut(&self.table.shared, 0);
         if at < homes.first {
@@ -98,8 +98,9 @@ impl<T: Drop> List<T> {
         }
     }
 
-    /// A sender adds a segment of this many positions at this place, if there is none yet. The error is [`AllocError`] if
-    /// the allocator refuses the memory: then nothing has changed.
+    /// A sender adds a segment of this many positions at this place, if there is none yet. It left each segment before
+    /// only once nothing could be sent there. The error is [`AllocError`] if the allocator refuses the memory: then
+    /// nothing has changed.
     pub fn append(
         &self,
         chair: &mut Chair<T>,
@@ -110,6 +111,8 @@ impl<T: Drop> List<T> {
         requires list { chair.old.table_id ≡ self.now.table.shared.table_id }
         requires ready { IsReady chair.old.me }
         requires sender { 0 < (view_in chair.old).sends }
+        requires here { (view_in chair.old).at ≡ at }
+        requires orderly { (view_in chair.old).orderly ≡ true }
         ensures list { (chair.new.table_id ≡ chair.old.table_id) × (chair.new.id ≡ chair.old.id) }
         ensures answer { IfOk result (λ a. OfAppended a (chair.new.me ≡ chair.old.me)
             (chair.new.me ≡ (saw_closed (view_in chair.old), []))) }
@@ -134,6 +137,7 @@ impl<T: Drop> List<T> {
         ensures list { IfOk result (λ r. r.1.table_id ≡ r.0.table.shared.table_id) }
         ensures first { IfOk result (λ r. IsReady r.1.me × IsFirst (view_in r.1)
             × ((view_in r.1).at ≡ 0) × ((view_in r.1).takes ≡ true)
+            × ((view_in r.1).orderly ≡ true)
             × ((view_in r.1).sends ≡ 1) × ((view_in r.1).receives ≡ 1)) }
     {
         let homes = no_homes(alloc)?;
@@ -179,6 +183,7 @@ impl<T: Drop> List<T> {
         ensures new { IsReady result.me × IsFirst (view_in result)
             × ((view_in result).at ≡ (view_in chair.old).at)
             × ((view_in result).takes ≡ (view_in chair.old).takes)
+            × ((view_in result).orderly ≡ (view_in chair.old).orderly)
             × ((view_in result).sends ≡ S.sends) × ((view_in result).receives ≡ S.receives)
             × ((view_in result).last ≡ (view_in chair.old).last) }
     {

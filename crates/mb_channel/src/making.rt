@@ -1,8 +1,8 @@
-//! Ends are made from one another, and given back to one another.
+//! Ends are made from one another.
 ghost use Rattle.std.specs.Prelude.{◌≡◌, ◌++◌, ◌∷◌, ◌+◌, ◌-◌, ◌<◌, ◌≤◌, false, true, IfOk, IfSome, None};
 ghost use Rattle.mb_channel.specs.Tallies.{hires_receiver, hires_sender};
 ghost use Rattle.mb_channel.specs.Homes.{IsFirst, IsReady, view_in};
-ghost use Rattle.mb_channel.specs.Ends.{IsEndOf, IsFresh, IsSame, given_to, got_by, log_of, sent_by, view_of};
+ghost use Rattle.mb_channel.specs.Ends.{IsEndOf, IsFresh, IsSame, StaysTold, given_to, got_by, log_of, sent_by, view_of};
 
 use crate::channel::Channel;
 use crate::end::{End, Receiver, Sender};
@@ -10,13 +10,13 @@ use crate::list::{Chair, List};
 use crate::rule::{AsReceiver, AsSender, Side};
 use std::alloc::{AllocError, Global};
 use std::sync::Wait;
-use std::thread::yield_now;
 
 /// An end that is in no segment.
 pub(crate) fn end_at<T: Drop>(chair: Chair<T>, at: usize) -> End<T>
     requires ready { IsReady chair.me }
     requires first { IsFirst (view_in chair) }
     requires here { (view_in chair).at ≡ at }
+    requires orderly { (view_in chair).orderly ≡ true }
     ensures chair { result.chair ≡ chair }
     ensures fresh { IsFresh result }
 {
@@ -47,7 +47,7 @@ impl<T: Drop> Channel<T> {
     }
 
     /// The same once it succeeds. It is `false` if so many ends were made that they cannot be counted.
-    fn count_one<R: Wait>(&self, rt: &R, end: &mut End<T>) -> bool
+    pub(crate) fn count_one<R: Wait>(&self, rt: &R, end: &mut End<T>) -> bool
         requires channel { IsEndOf self.now end.old }
         ensures end { IsSame end.old end.new }
         ensures takes { (view_of end.new).takes ≡ (view_of end.old).takes }
@@ -77,7 +77,8 @@ impl<T: Drop> Channel<T> {
         requires receives { S.receives ≤ (view_of end.old).receives }
         ensures old { IsEndOf self.now end.new × ((view_of end.new).takes ≡ (view_of end.old).takes)
             × ((view_of end.new).number ≡ (view_of end.old).number)
-            × ((view_of end.new).ended ≡ (view_of end.old).ended) }
+            × ((view_of end.new).ended ≡ (view_of end.old).ended)
+            × StaysTold (view_of end.old) (view_of end.new) }
         ensures sent { sent_by end.new ≡ sent_by end.old }
         ensures got { got_by end.new ≡ got_by end.old }
         ensures sends { ((view_of end.new).sends ≡ (view_of end.old).sends - S.sends)
@@ -96,20 +97,20 @@ impl<T: Drop> Channel<T> {
     }
 
     /// Counts for one sender more. It is `false` if there are so many that they cannot be counted.
-    fn hire_sender<R: Wait>(&self, rt: &R, sender: &mut Sender<T>) -> bool
-        requires channel { IsEndOf self.now sender.old.end }
-        ensures chair { (sender.new.end.chair.table_id ≡ sender.old.end.chair.table_id)
-            × (sender.new.end.inside ≡ sender.old.end.inside) }
-        ensures view { result ≡ true
-            → view_of sender.new.end ≡ hires_sender (view_of sender.old.end) }
-        ensures same { result ≡ false → view_of sender.new.end ≡ view_of sender.old.end }
+    fn hire_sender<R: Wait>(&self, rt: &R, end: &mut End<T>) -> bool
+        requires channel { IsEndOf self.now end.old }
+        requires sender { 0 < (view_of end.old).sends }
+        ensures chair { (end.new.chair.table_id ≡ end.old.chair.table_id)
+            × (end.new.inside ≡ end.old.inside) }
+        ensures view { result ≡ true → view_of end.new ≡ hires_sender (view_of end.old) }
+        ensures same { result ≡ false → view_of end.new ≡ view_of end.old }
     {
         let mut seen: u64 = 1;
         for _ in rt.forever() {
             if seen >= u64::MAX {
                 return false;
             }
-            let found = self.list.hire_sender(&mut sender.end.chair, seen, seen + 1);
+            let found = self.list.hire_sender(&mut end.chair, seen, seen + 1);
             if found == seen {
                 return true;
             }
@@ -142,45 +143,6 @@ impl<T: Drop> Channel<T> {
         }
         unreachable!()
     }
-
-    /// The end, once it has left its segment.
-    pub(crate) fn outside<R: Wait>(&self, rt: &R, end: End<T>) -> End<T>
-        requires channel { IsEndOf self.now end }
-        ensures end { IsSame end result }
-        ensures sent { sent_by result ≡ sent_by end }
-        ensures got { got_by result ≡ got_by end }
-        ensures outside { result.inside ≡ None }
-    {
-        let mut end = end;
-        for _ in rt.forever() {
-            if self.leave(&mut end) {
-                return end;
-            }
-            yield_now();
-        }
-        unreachable!()
-    }
-
-    /// Takes back another end.
-    fn take_in<R: Wait>(&self, rt: &R, end: &mut End<T>, other: End<T>)
-        requires channel { IsEndOf self.now end.old × IsEndOf self.now other }
-        ensures list { end.new.chair.table_id ≡ end.old.chair.table_id }
-        ensures number { (view_of end.new).number ≡ (view_of end.old).number }
-        ensures takes { (view_of end.new).takes ≡ (view_of end.old).takes }
-        ensures receives { (view_of end.old).receives ≤ (view_of end.new).receives }
-        ensures sent { sent_by end.new ≡ sent_by end.old }
-        ensures got { got_by end.new ≡ got_by end.old }
-        ensures given { given_to end.new ≡ given_to end.old ++ log_of other ∷ given_to other }
-    {
-        let End {
-            chair,
-            at: _,
-            rights,
-            inside: _,
-        } = self.outside(rt, other);
-        self.list.give_back(&mut end.chair, chair);
-        end.rights = end.rights.saturating_add(rights);
-    }
 }
 
 impl<T: Drop> Channel<T> {
@@ -205,13 +167,14 @@ impl<T: Drop> Channel<T> {
         requires channel { IsEndOf self.now sender.old.end }
         ensures channel { IsEndOf self.now sender.new.end }
         ensures logs { log_of sender.new.end ≡ log_of sender.old.end }
+        ensures told { StaysTold (view_of sender.old.end) (view_of sender.new.end) }
         ensures given { given_to sender.new.end ≡ given_to sender.old.end }
         ensures new { IfSome result (λ s. IsEndOf self.now s.end × IsFresh s.end) }
     {
         if !self.count_one(rt, &mut sender.end) {
             return None;
         }
-        if !self.hire_sender(rt, sender) {
+        if !self.hire_sender(rt, &mut sender.end) {
             return None;
         }
         let end = self.split::<AsSender>(&mut sender.end);
@@ -227,6 +190,7 @@ impl<T: Drop> Channel<T> {
         requires channel { IsEndOf self.now receiver.old.end }
         ensures channel { IsEndOf self.now receiver.new.end }
         ensures logs { log_of receiver.new.end ≡ log_of receiver.old.end }
+        ensures told { StaysTold (view_of receiver.old.end) (view_of receiver.new.end) }
         ensures given { given_to receiver.new.end ≡ given_to receiver.old.end }
         ensures new { IfSome result (λ r. IsEndOf self.now r.end × IsFresh r.end) }
     {
@@ -238,29 +202,5 @@ impl<T: Drop> Channel<T> {
         }
         let end = self.split::<AsReceiver>(&mut receiver.end);
         Some(Receiver { end })
-    }
-
-    /// Takes back a sender.
-    pub fn give_sender<R: Wait>(&self, rt: &R, to: &mut Receiver<T>, sender: Sender<T>)
-        requires channel { IsEndOf self.now to.old.end × IsEndOf self.now sender.end }
-        ensures channel { IsEndOf self.now to.new.end }
-        ensures logs { log_of to.new.end ≡ log_of to.old.end }
-        ensures given { given_to to.new.end
-            ≡ given_to to.old.end ++ log_of sender.end ∷ given_to sender.end }
-    {
-        let Sender { end } = sender;
-        self.take_in(rt, &mut to.end, end);
-    }
-
-    /// Takes back another receiver.
-    pub fn give_receiver<R: Wait>(&self, rt: &R, to: &mut Receiver<T>, receiver: Receiver<T>)
-        requires channel { IsEndOf self.now to.old.end × IsEndOf self.now receiver.end }
-        ensures channel { IsEndOf self.now to.new.end }
-        ensures logs { log_of to.new.end ≡ log_of to.old.end }
-        ensures given { given_to to.new.end
-            ≡ given_to to.old.end ++ log_of receiver.end ∷ given_to receiver.end }
-    {
-        let Receiver { end } = receiver;
-        self.take_in(rt, &mut to.end, end);
     }
 }

@@ -1,5 +1,5 @@
 //! For how many senders and receivers the ends of the list count, and its closing.
-ghost use Rattle.std.specs.Prelude.{◌≡◌, ◌≢◌, ◌+◌, ◌<◌, ◌∷◌, [], true, false};
+ghost use Rattle.std.specs.Prelude.{◌≡◌, ◌≢◌, ◌+◌, ◌<◌, ◌≤◌, ◌∷◌, [], true, false};
 ghost use Rattle.mb_channel.specs.Answers.{OfRetired};
 ghost use Rattle.mb_channel.specs.Homes.{IsReady, view_in};
 ghost use Rattle.mb_channel.specs.Tallies.{hires_receiver, hires_sender, retires_receiver, retires_sender};
@@ -55,7 +55,8 @@ impl<T: Drop> List<T> {
         ensures answer { OfRetired result
             (view_in chair.new ≡ retires_sender true (view_in chair.old))
             (view_in chair.new ≡ retires_sender false (view_in chair.old))
-            (view_in chair.new ≡ view_in chair.old) }
+            (λ n. (view_in chair.new ≡ view_in chair.old) × (n ≢ seen)
+            × ((view_in chair.old).sends ≤ n)) }
     {
         let found = self
             .table
@@ -92,7 +93,8 @@ impl<T: Drop> List<T> {
         requires live { (view_in chair.old).live ≡ true }
         ensures list { (chair.new.table_id ≡ chair.old.table_id) × (chair.new.id ≡ chair.old.id) }
         ensures held { chair.new.me.1 ≡ chair.old.me.1 }
-        ensures none { result ≡ true → view_in chair.new ≡ saw_none (view_in chair.old) }
+        ensures none { result ≡ true → (view_in chair.new ≡ saw_none (view_in chair.old))
+            × ((view_in chair.old).sends ≡ 0) }
         ensures some { result ≡ false → view_in chair.new ≡ view_in chair.old }
     {
         self.table.shared.load::<SeesSenders>(chair, 2) == 0

@@ -1,7 +1,8 @@
 //! The calls that receive.
-ghost use Rattle.std.specs.Prelude.{◌≡◌, ◌⊎◌, ◌++◌, ◌∷◌, [], false, is_some, IfNone, IfOk, IfSome, OnErr};
-ghost use Rattle.mb_channel.specs.Ends.{IsEndOf, IsSame, got_by, sent_by};
-ghost use Rattle.mb_channel.specs.Receives.{OfTried, SawEmpty};
+ghost use Rattle.std.specs.Prelude.{◌≡◌, ◌⊎◌, ◌++◌, ◌∷◌, [], IfErr, IfNone, IfOk, IfSome, OnErr};
+ghost use Rattle.mb_channel.specs.Answers.{IfClosed};
+ghost use Rattle.mb_channel.specs.Ends.{IsBehind, IsEndOf, IsSame, got_by, sent_by};
+ghost use Rattle.mb_channel.specs.Receives.{FoundNone, OfTried, SawEmpty};
 
 use crate::channel::{Channel, Refused};
 use crate::end::Receiver;
@@ -15,13 +16,15 @@ use std::time::{Clock, Instant};
 const TRIES: u32 = 4;
 
 impl<T: Drop> Channel<T> {
-    /// Receives the next value, and sleeps until there is one.
+    /// Receives the next value, and sleeps until there is one. [`Refused::Closed`] is told only behind the last segment,
+    /// and then for ever: nothing waits in the channel, and nothing can be sent.
     pub fn receive<R: Wait>(&self, rt: &R, receiver: &mut Receiver<T>) -> Result<T, Refused>
         requires channel { IsEndOf self.now receiver.old.end }
         ensures end { IsSame receiver.old.end receiver.new.end }
         ensures got { IfOk result (λ x. got_by receiver.new.end
             ≡ got_by receiver.old.end ++ x ∷ []) }
         ensures none { OnErr result (got_by receiver.new.end ≡ got_by receiver.old.end) }
+        ensures closed { IfErr result (λ why. IfClosed why (IsBehind receiver.new.end)) }
         ensures sent { sent_by receiver.new.end ≡ sent_by receiver.old.end }
     {
         for _ in rt.forever() {
@@ -35,8 +38,8 @@ impl<T: Drop> Channel<T> {
     }
 
     /// The same until a deadline: `None` if that came first. Then at a moment of this call all was received that this end
-    /// had sent in its segment, or had seen there. Or the end is in no segment: the next one is not there yet, or the
-    /// lock was taken. It goes on past the deadline while a value is being sent.
+    /// had sent in its segment, or had seen there. Or the end was behind the last segment, and nothing waited. It goes on
+    /// past the deadline while a value is being sent, or the lock is taken.
     pub fn receive_by<R: Wait + Clock>(
         &self,
         rt: &R,
@@ -48,9 +51,10 @@ impl<T: Drop> Channel<T> {
         ensures got { IfOk result (λ o. IfSome o (λ x. got_by receiver.new.end
             ≡ got_by receiver.old.end ++ x ∷ [])) }
         ensures late { IfOk result (λ o. IfNone o
-            ((SawEmpty receiver.new.end ⊎ (is_some receiver.new.end.inside ≡ false))
+            ((SawEmpty receiver.old.end receiver.new.end ⊎ FoundNone receiver.new.end)
             × (got_by receiver.new.end ≡ got_by receiver.old.end))) }
         ensures none { OnErr result (got_by receiver.new.end ≡ got_by receiver.old.end) }
+        ensures closed { IfErr result (λ why. IfClosed why (IsBehind receiver.new.end)) }
         ensures sent { sent_by receiver.new.end ≡ sent_by receiver.old.end }
     {
         for _ in rt.forever() {
@@ -59,12 +63,11 @@ impl<T: Drop> Channel<T> {
                 Received::TimedOut => return Ok(None),
                 Received::Over => {}
             }
-            let was_inside = receiver.end.inside.is_some();
-            self.go_on(&mut receiver.end, true)?;
+            let there = self.go_on(&mut receiver.end, true)?;
             if receiver.end.inside.is_some() {
                 continue;
             }
-            if !was_inside && is_past(rt, deadline) {
+            if !there && is_past(rt, deadline) {
                 return Ok(None);
             }
             yield_now();
@@ -78,17 +81,20 @@ impl<T: Drop> Channel<T> {
         ensures end { IsSame receiver.old.end receiver.new.end }
         ensures answer { IfOk result (λ t. OfTried t
             (λ x. got_by receiver.new.end ≡ got_by receiver.old.end ++ x ∷ [])
-            (SawEmpty receiver.new.end
+            ((SawEmpty receiver.old.end receiver.new.end ⊎ FoundNone receiver.new.end)
             × (got_by receiver.new.end ≡ got_by receiver.old.end))
             (got_by receiver.new.end ≡ got_by receiver.old.end)) }
         ensures none { OnErr result (got_by receiver.new.end ≡ got_by receiver.old.end) }
+        ensures closed { IfErr result (λ why. IfClosed why (IsBehind receiver.new.end)) }
         ensures sent { sent_by receiver.new.end ≡ sent_by receiver.old.end }
     {
         for _ in 0..TRIES {
             if let Some(tried) = receiver.end.try_receive() {
                 return Ok(tried);
             }
-            self.go_on(&mut receiver.end, true)?;
+            if !self.go_on(&mut receiver.end, true)? {
+                return Ok(Tried::Empty);
+            }
         }
         Ok(Tried::Again)
     }

@@ -34,18 +34,18 @@ impl<T> Change<T> for Brand {
     ghost of = { λ v. v };
 }
 
-/// What an end did in the segment that it leaves. A proof picks it.
+/// What the pass of an end knows that leaves its segment. A proof picks it.
 pub trait Stay<T> {
-    ghost use Rattle.mb_segment.specs.declared.view.Account.{Account};
+    ghost use Rattle.mb_segment.specs.declared.view.View.{View};
 
-    ghost account: { Account T };
+    ghost knew: { View T };
 }
 
 // This one is not used.
 impl<T> Stay<T> for Brand {
-    ghost use Rattle.mb_segment.specs.Vocabulary.{nothing_done};
+    ghost use Rattle.mb_segment.specs.Vocabulary.{blank};
 
-    ghost account = { nothing_done };
+    ghost knew = { blank };
 }
 
 pub struct GivesLock<F> {
@@ -69,43 +69,47 @@ impl<T: Drop> Play<Homes<T>, Knows<T>> for GetsNumber {
 pub struct Counts;
 
 impl<T: Drop> Play<Homes<T>, Knows<T>> for Counts {
-    ghost use Rattle.mb_channel.specs.Homes.{counts_more};
+    ghost use Rattle.mb_channel.specs.Homes.{counts_more, rights};
     ghost use Rattle.mb_channel.specs.Tallies.{counting};
 
-    ghost then = { counting (λ _. counts_more) };
+    ghost then = { counting rights (λ _. counts_more) };
 }
 
 pub struct HiresSender;
 
 impl<T: Drop> Play<Homes<T>, Knows<T>> for HiresSender {
+    ghost use Rattle.mb_channel.specs.Homes.{sends};
     ghost use Rattle.mb_channel.specs.Tallies.{counting, hires_sender};
 
-    ghost then = { counting (λ _. hires_sender) };
+    ghost then = { counting sends (λ _. hires_sender) };
 }
 
 pub struct HiresReceiver;
 
 impl<T: Drop> Play<Homes<T>, Knows<T>> for HiresReceiver {
+    ghost use Rattle.mb_channel.specs.Homes.{receives};
     ghost use Rattle.mb_channel.specs.Tallies.{counting, hires_receiver};
 
-    ghost then = { counting (λ _. hires_receiver) };
+    ghost then = { counting receives (λ _. hires_receiver) };
 }
 
 pub struct RetiresSender;
 
 impl<T: Drop> Play<Homes<T>, Knows<T>> for RetiresSender {
     ghost use Rattle.std.specs.Prelude.{nat_eq};
+    ghost use Rattle.mb_channel.specs.Homes.{sends};
     ghost use Rattle.mb_channel.specs.Tallies.{counting, retires_sender};
 
-    ghost then = { counting (λ r. retires_sender (nat_eq r 1)) };
+    ghost then = { counting sends (λ r. retires_sender (nat_eq r 1)) };
 }
 
 pub struct RetiresReceiver;
 
 impl<T: Drop> Play<Homes<T>, Knows<T>> for RetiresReceiver {
+    ghost use Rattle.mb_channel.specs.Homes.{receives};
     ghost use Rattle.mb_channel.specs.Tallies.{counting, retires_receiver};
 
-    ghost then = { counting (λ _. retires_receiver) };
+    ghost then = { counting receives (λ _. retires_receiver) };
 }
 
 pub struct SeesSenders;
@@ -155,6 +159,15 @@ impl Side for AsReceiver {
     ghost sends = { 0 };
 
     ghost receives = { 1 };
+}
+
+/// An end that neither sends nor receives.
+pub struct AsNobody;
+
+impl Side for AsNobody {
+    ghost sends = { 0 };
+
+    ghost receives = { 0 };
 }
 
 pub struct Splits<S> {

@@ -1,10 +1,11 @@
 //! Samples of the theorem's definitions: what they admit, and what only looks right. The functions compute nothing:
 //! their contracts are the samples.
-ghost use Rattle.std.specs.Prelude.{ℕ, Some, [], ◌∷◌, ◌≡◌, true, false};
+ghost use Rattle.std.specs.Prelude.{ℕ, Some, [], ◌+◌, ◌∷◌, ◌≡◌, true, false};
+ghost use Rattle.mb_segment.specs.Vocabulary.{SawAllTaken};
 ghost use Rattle.mb_channel.specs.ChannelSamples.{forgotten, one_sender, one_taken, overtaken, overtaken_life, swapped_life};
 ghost use Rattle.mb_channel.specs.ChannelSamples.{taken_twice, two_and_two, two_segments, two_taken, unheeded, unheeded_life, unheeded_take};
 ghost use Rattle.mb_channel.specs.ChannelSamples.{ended, refused_beside_a_receiver, told_beside_a_sender, told_too_soon, value_behind};
-ghost use Rattle.mb_channel.specs.ChannelSamples.{looked_for, overslept, slept_past_the_end, slept_through_the_end, token_elsewhere};
+ghost use Rattle.mb_channel.specs.ChannelSamples.{last_drawn, last_forgotten, looked_for, overslept, slept_past_the_end, slept_through_the_end, token_elsewhere};
 ghost use Rattle.mb_channel.specs.ChannelSamples.{sleepers, two_forsaken, two_wait};
 ghost use Rattle.mb_channel.specs.ChannelTheorem.{EachBounded, EachMoment, WholeLife};
 ghost use Rattle.mb_channel.specs.ChannelSamples.{call, claim, entry, history, receiver, sender};
@@ -15,6 +16,9 @@ ghost use Rattle.mb_channel.specs.Types.{Home};
 ghost use Rattle.mb_channel.specs.Segments.{AreLogs, EachKeeps, InTurn, KeepsEnd, TakenInTurn};
 ghost use Rattle.mb_channel.specs.Stays.{AllBy, AllTo, AreApart, DidSo, Told, by_ends};
 ghost use Rattle.mb_channel.specs.Lives.{HaveEnded, end_in};
+ghost use Rattle.mb_channel.specs.Receives.{SawEmpty, SawNothing, found_in};
+ghost use Rattle.mb_channel.specs.declared.end.End.{End};
+ghost use Rattle.mb_channel.specs.declared.inside.Inside.{Inside};
 
 /// Points 1 to 3. A life over two segments is admitted. Refused: values of one sender that stand in another order, a
 /// value that stands before one that its sender knew of, a value that two received, a take before one that its receiver
@@ -61,10 +65,14 @@ pub fn sample_bounds()
     ensures forsaken { EachBounded 2 0 (sleepers 1 0 0 0) false two_forsaken → ⊥ }
 {}
 
-/// What laws ask of segments. Admitted: what the moments and lives above keep. Refused: a sleeper beside a value, a
-/// segment visited past a value, "closed" told beside one, a value that overtook another, and a take that no end logs.
+/// What laws ask of segments. Admitted: what the moments and lives above keep, and a sleeper beside a value for which the
+/// sender of the last position owes tokens to all. Refused: that it owes one wake alone, that nobody owes any, a segment
+/// visited past a value, "closed" told beside one, a value that overtook another, and a take that no end logs.
 pub fn sample_segments()
     ensures kept { EachKeeps looked_for.segments × InTurn looked_for.segments × KeepsEnd ended }
+    ensures last { EachKeeps last_drawn.segments × InTurn last_drawn.segments
+        × EachMoment last_drawn }
+    ensures forgotten { EachKeeps last_forgotten.segments → ⊥ }
     ensures overslept { EachKeeps overslept.segments → ⊥ }
     ensures behind { InTurn value_behind.segments → ⊥ }
     ensures told { KeepsEnd told_too_soon → ⊥ }
@@ -104,9 +112,20 @@ pub fn sample_visits()
 
 /// An end is told "closed" where it saw that no sender is left, or that the list is closed. Refused: that it saw neither.
 pub fn sample_told()
-    ensures alone { IsTold 2 (first_view {T = ℕ})
-        (record first_view { alone = true; last = Some 2 }) }
+    ensures alone { IsTold 2 (record (first_view {T = ℕ}) { sends = 0 })
+        (record first_view { sends = 0; alone = true; last = Some 2 }) }
+    ensures sender { IsTold 2 (first_view {T = ℕ})
+        (record first_view { alone = true; last = Some 2 }) → ⊥ }
     ensures shut { IsTold 2 (first_view {T = ℕ})
         (record first_view { shut = true; last = Some 2 }) }
     ensures neither { IsTold 2 (first_view {T = ℕ}) (record first_view { last = Some 2 }) → ⊥ }
+{}
+
+/// A receiver finds its segment empty. Admitted: it looked in the call, and all was claimed that it had sent or seen.
+/// Refused: it looked only before the call. So of an end.
+pub fn sample_empty()
+    ensures looked { (i j : Inside ℕ) → SawAllTaken j.pass.seat.me.0 → found_in j ≡ found_in i + 1
+        → SawNothing i j }
+    ensures before { (i : Inside ℕ) → SawNothing i i → ⊥ }
+    ensures end { (e : End ℕ) → SawEmpty e e → ⊥ }
 {}

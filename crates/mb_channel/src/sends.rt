@@ -1,6 +1,7 @@
 //! The calls that send.
-ghost use Rattle.std.specs.Prelude.{◌≡◌, ◌++◌, ◌∷◌, [], IfErr, OnOk};
-ghost use Rattle.mb_channel.specs.Ends.{IsEndOf, IsSame, got_by, sent_by};
+ghost use Rattle.std.specs.Prelude.{◌≡◌, ◌++◌, ◌∷◌, [], true, IfErr, OnOk};
+ghost use Rattle.mb_channel.specs.Answers.{IfClosed};
+ghost use Rattle.mb_channel.specs.Ends.{IsEndOf, IsSame, got_by, sent_by, view_of};
 
 use crate::channel::{Channel, Refused};
 use crate::end::Sender;
@@ -16,6 +17,7 @@ pub struct NotSent<T> {
 
 impl<T: Drop> Channel<T> {
     /// Sends a value, behind all that the sender sent before, and wakes a receiver for it. The error gives it back.
+    /// [`Refused::Closed`] is told only if the list is closed.
     pub fn send<R: Wait>(&self, rt: &R, sender: &mut Sender<T>, value: T) -> Result<(), NotSent<T>>
         requires channel { IsEndOf self.now sender.old.end }
         ensures end { IsSame sender.old.end sender.new.end }
@@ -23,6 +25,8 @@ impl<T: Drop> Channel<T> {
             ≡ sent_by sender.old.end ++ value ∷ []) }
         ensures back { IfErr result (λ e. (e.value ≡ value)
             × (sent_by sender.new.end ≡ sent_by sender.old.end)) }
+        ensures closed { IfErr result (λ e.
+            IfClosed e.why ((view_of sender.new.end).shut ≡ true)) }
         ensures got { got_by sender.new.end ≡ got_by sender.old.end }
     {
         let mut value = value;

@@ -5,8 +5,8 @@
 pub enum Tried<T> {
     Value(T),
     /// No value is there. At a moment of this call all was received that this end had sent in its segment, or had seen
-    /// there.
+    /// there. Or the end was behind the last segment, and nothing waited.
     Empty,
-    /// A value is being sent, another end was first, the lock is taken, or no segment is there yet. Yield, and try again.
+    /// A value is being sent, another end was first, or the lock is taken. Yield, and try again.
     Again,
 }

@@ -31,6 +31,8 @@ pub struct Knows<T: Drop> {
     pub place: Option<Shared<T>>,
     /// Whether it may receive there.
     pub takes: bool,
+    /// Whether it left each segment only once that was over, and so did the ends that it was made from.
+    pub orderly: bool,
     /// The ends that were given back to it.
     pub ended: LinkedList<Past<T>>,
     /// Whether it has the lock, and all segments that there ever were.
@@ -44,4 +46,6 @@ pub struct Knows<T: Drop> {
     pub shut: bool,
     /// It was told that there are so many segments, and never more.
     pub last: Option<u64>,
+    /// When it last found no segment at its place, there were just so many.
+    pub found: Option<u64>,
 }

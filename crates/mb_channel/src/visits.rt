@@ -5,7 +5,7 @@ ghost use Rattle.mb_segment.specs.Seats.{view_in as pass_view};
 ghost use Rattle.mb_segment.specs.Vocabulary.{IsFree, blank};
 ghost use Rattle.mb_channel.specs.Homes.{At, Changes, HasIssued, HasTakenBack, HoldsHomes, IsNext, IsPassOf, IsReady};
 ghost use Rattle.mb_channel.specs.Homes.{MayGive, came_to, left_segment, out_of, unlocked, view_in, went_on};
-ghost use Rattle.mb_channel.specs.Tallies.{IsTold, told_last};
+ghost use Rattle.mb_channel.specs.Tallies.{IsTold, found_none, told_last};
 ghost use Rattle.mb_channel.specs.Answers.{OfCame};
 
 use crate::answers::Came;
@@ -52,7 +52,7 @@ impl<T: Drop> List<T> {
     /// Leaves the segment, under the lock, and gives that back.
     fn part<X: Stay<T>>(&self, chair: &mut Chair<T>, at: usize, pass: Pass<T>, over: bool) -> bool
         requires list { chair.old.table_id ≡ self.now.table.shared.table_id }
-        requires picked { X.account ≡ (pass_view pass).account }
+        requires picked { X.knew ≡ pass_view pass }
         requires held { ((view_in chair.old).live ≡ true) × ((view_in chair.old).holds ≡ true)
             × ((view_in chair.old).inside ≡ true) × ((view_in chair.old).at ≡ at) }
         requires homes { HoldsHomes chair.old.me (λ hs. hs ≡ (view_in chair.old).before) }
@@ -64,7 +64,7 @@ impl<T: Drop> List<T> {
         ensures list { (chair.new.table_id ≡ chair.old.table_id) × (chair.new.id ≡ chair.old.id) }
         ensures left { (chair.new.me.1 ≡ [])
             × (view_in chair.new
-            ≡ left_segment (pass_view pass).account result (unlocked (view_in chair.old)))
+            ≡ left_segment (pass_view pass) result (unlocked (view_in chair.old)))
             × ((pass_view pass).over ≡ true → result ≡ true) }
     {
         let done = self.give_pass(chair, at, pass, over);
@@ -91,7 +91,7 @@ impl<T: Drop> List<T> {
         ensures list { (chair.new.table_id ≡ chair.old.table_id) × (chair.new.id ≡ chair.old.id) }
         ensures left { IfOk result (λ done. (chair.new.me.1 ≡ [])
             × (view_in chair.new
-            ≡ left_segment (pass_view pass).account done (unlocked (view_in chair.old)))
+            ≡ left_segment (pass_view pass) done (unlocked (view_in chair.old)))
             × ((pass_view pass).over ≡ true → done ≡ true)) }
         ensures kept { IfErr result (λ p. (p ≡ pass) × (chair.new.me ≡ chair.old.me)) }
     {
@@ -180,7 +180,8 @@ impl<T: Drop> List<T> {
         requires picked { F.of ≡ told_last last }
         requires held { ((view_in chair.old).live ≡ true) × ((view_in chair.old).holds ≡ true) }
         requires homes { HoldsHomes chair.old.me (λ hs. hs ≡ (view_in chair.old).before) }
-        requires last { length (view_in chair.old).before ≡ last }
+        requires last { (length (view_in chair.old).before ≡ last)
+            × ((view_in chair.old).at ≡ last) × ((view_in chair.old).orderly ≡ true) }
         requires seen { ((view_in chair.old).shut ≡ true) ⊎ ((view_in chair.old).alone ≡ true) }
         ensures list { (chair.new.table_id ≡ chair.old.table_id) × (chair.new.id ≡ chair.old.id) }
         ensures view { (view_in chair.new ≡ told_last last (unlocked (view_in chair.old)))
@@ -190,15 +191,32 @@ impl<T: Drop> List<T> {
         self.give::<F>(chair);
     }
 
+    /// Tells an end that there are just so many segments, and none at its place, and gives the lock back.
+    fn tell_none<F: Change<T>>(&self, chair: &mut Chair<T>, at: usize)
+        requires list { chair.old.table_id ≡ self.now.table.shared.table_id }
+        requires picked { F.of ≡ found_none at }
+        requires held { ((view_in chair.old).live ≡ true) × ((view_in chair.old).holds ≡ true) }
+        requires homes { HoldsHomes chair.old.me (λ hs. hs ≡ (view_in chair.old).before) }
+        requires last { length (view_in chair.old).before ≡ at }
+        ensures list { (chair.new.table_id ≡ chair.old.table_id) × (chair.new.id ≡ chair.old.id) }
+        ensures view { (view_in chair.new ≡ found_none at (unlocked (view_in chair.old)))
+            × (chair.new.me.1 ≡ []) }
+    {
+        let _ = at;
+        self.give::<F>(chair);
+    }
+
     /// Tells an end that is behind the last segment whether one may still come, and gives the lock back.
     fn tell(&self, chair: &mut Chair<T>, at: usize) -> Came<T>
         requires list { chair.old.table_id ≡ self.now.table.shared.table_id }
         requires held { ((view_in chair.old).live ≡ true) × ((view_in chair.old).holds ≡ true) }
         requires homes { HoldsHomes chair.old.me (λ hs. hs ≡ (view_in chair.old).before) }
-        requires last { length (view_in chair.old).before ≡ at }
+        requires last { (length (view_in chair.old).before ≡ at)
+            × ((view_in chair.old).at ≡ at) × ((view_in chair.old).orderly ≡ true) }
         ensures list { (chair.new.table_id ≡ chair.old.table_id) × (chair.new.id ≡ chair.old.id) }
         ensures answer { OfCame result (λ _ _. ⊥) (λ _. ⊥)
-            ((chair.new.me.1 ≡ []) × (view_in chair.new ≡ unlocked (view_in chair.old)))
+            ((chair.new.me.1 ≡ [])
+            × (view_in chair.new ≡ found_none at (unlocked (view_in chair.old))))
             ((chair.new.me.1 ≡ []) × IsTold at (unlocked (view_in chair.old)) (view_in chair.new))
             ⊥ }
     {
@@ -210,7 +228,7 @@ impl<T: Drop> List<T> {
             self.tell_last::<Brand>(chair, at);
             return Came::Closed;
         }
-        self.unlock(chair);
+        self.tell_none::<Brand>(chair, at);
         Came::NotYet
     }
 
@@ -220,6 +238,7 @@ impl<T: Drop> List<T> {
         requires ready { IsReady chair.old.me }
         requires here { ((view_in chair.old).at ≡ at) × ((view_in chair.old).inside ≡ false) }
         requires side { takes ≡ true → (view_in chair.old).takes ≡ true }
+        requires orderly { (view_in chair.old).orderly ≡ true }
         ensures list { (chair.new.table_id ≡ chair.old.table_id) × (chair.new.id ≡ chair.old.id) }
         ensures answer { OfCame result
             (λ s p. (chair.new.me.1 ≡ [])
@@ -228,7 +247,7 @@ impl<T: Drop> List<T> {
             × (pass_view p ≡ blank) × IsFree p)
             (λ k. (at < k) × (chair.new.me.1 ≡ [])
             × (view_in chair.new ≡ went_on k (unlocked (view_in chair.old))))
-            (chair.new.me ≡ chair.old.me)
+            ((chair.new.me.1 ≡ []) × (view_in chair.new ≡ found_none at (view_in chair.old)))
             ((chair.new.me.1 ≡ []) × IsTold at (view_in chair.old) (view_in chair.new))
             (chair.new.me ≡ chair.old.me) }
     {

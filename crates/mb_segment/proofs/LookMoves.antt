@@ -112,7 +112,7 @@ module _ {T : Type 0} where
         tt,
         loaded s 0 n me.1 w (settled s k n me.0 w at (omega arith) refl refl refl
             (sighted k.history k.states k.cut k.hub k.roll n (with_duty f me.0)
-            record me.0.sight { empty = slice_index s.words 0 }
+            record me.0.sight { empty = slice_index s.words 0; found = me.0.sight.found + 1 }
             (refit k.history k.states k.cut k.hub k.roll n me.0 (with_duty f me.0) (plain f me.0 lf.2) fit)
             fit.low fit.ripe fit.full fit.cut_ (omega arith))
             (λ L O C L' O' C' l o c le q h. (inr (omega arith), inr (omega arith)))),

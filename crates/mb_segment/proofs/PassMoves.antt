@@ -246,8 +246,8 @@ module _ {T : Type 0} where
           half = f.half;
           low = f.low;
           ripe = f.ripe;
-          full = f.full;
-          cut_ = f.cut_;
+          full = λ on. ⊎_elim f.full (k.fits other w was_other).full (either_over v.sight.full w.sight.full on);
+          cut_ = λ on. ⊎_elim f.cut_ (k.fits other w was_other).cut_ (either_over v.sight.cut w.sight.cut on);
           empty = f.empty;
           heard = let g = (k.fits other w was_other).heard in
               (f.heard.0, f.heard.1, (f.heard.2.0, f.heard.2.1, (g.2.0, g.2.1, f.heard.2.2)));

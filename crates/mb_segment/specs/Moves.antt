@@ -1,5 +1,5 @@
 -- How a step changes a view.
-use Rattle.std.specs.Prelude.{Bool, List, None, Option, Some, [], false, max, suc, true, ℕ, ◌+◌, ◌++◌, ◌-◌, ◌<◌, ◌∷◌, ◌≡◌}
+use Rattle.std.specs.Prelude.{Bool, List, None, Option, Some, [], false, max, suc, true, ℕ, ◌+◌, ◌++◌, ◌-◌, ◌<◌, ◌∷◌, ◌||◌, ◌≡◌}
 use Rattle.mb_segment.specs.Types.{Duty, Nothing, Reads, Spot, View, Writes}
 use Rattle.mb_segment.specs.History.{spot}
 use Rattle.mb_segment.specs.Passes.{blank, blind}
@@ -116,7 +116,11 @@ did_cut v = record v { account = record v.account { cut = true }; sight = record
 
 -- it saw that all positions were claimed when n were drawn
 abbrev pub sees_empty : {T : Type 0} → ℕ → View T → View T
-sees_empty n v = record v { sight = record v.sight { empty = n } }
+sees_empty n v = record v { sight = record v.sight { empty = n; found = v.sight.found + 1 } }
+
+-- how often it saw that
+abbrev pub found_empty : {T : Type 0} → View T → ℕ
+found_empty v = v.sight.found
 
 -- each position of the list is below n
 abbrev pub Below : {T : Type 0} → ℕ → List (Spot T) → Type 0
@@ -147,9 +151,19 @@ abbrev pub or : Bool → Bool → Bool
 or true b = true
 or false b = b
 
--- the hub takes a pass back: it has its account, and knows whether it was told that no value can come any more
+-- the hub takes a pass back: it has its account, and knows whether it was told that no value can come any more, or none
+-- can be sent
 abbrev pub took_back : {T : Type 0} → View T → View T → View T
-took_back v w = record v { out = v.out - 1; ends = w.account ∷ v.ends; over = or v.over w.over }
+took_back v w = record v {
+  out = v.out - 1;
+  ends = w.account ∷ v.ends;
+  over = or v.over w.over;
+  sight = record v.sight { full = or v.sight.full w.sight.full; cut = or v.sight.cut w.sight.cut };
+}
+
+-- whether it was told that the segment is over: all positions are drawn, or it was cut
+abbrev pub is_over : {T : Type 0} → View T → Bool
+is_over v = v.over || v.sight.full || v.sight.cut
 
 -- ---- a view without what it saw, and a view that owes nothing
 abbrev pub bare : {T : Type 0} → View T → View T

@@ -41,7 +41,7 @@ abbrev pub no_duty : Duty
 no_duty = record { wakes = 0; looks = 0; fresh = 0; asleep = 0; leaving = 0; closing = 0 }
 
 abbrev pub blind : Sight
-blind = record { low = 0; ripe = None; full = false; cut = false; empty = 0 }
+blind = record { low = 0; ripe = None; full = false; cut = false; empty = 0; found = 0 }
 
 abbrev pub nothing_done : {T : Type 0} → Account T
 nothing_done = record { sent = []; got = []; cut = false; sent_knew = []; got_knew = [] }

@@ -10,7 +10,7 @@ pub use Rattle.mb_segment.specs.Rule.{Fits, IsHub, IsMember, Keeps}
 pub use Rattle.mb_segment.specs.Moves.{IsCalm, bare, calm, done, drew, ended, enters, falls_asleep, gives_up, goes_unseen}
 pub use Rattle.mb_segment.specs.Moves.{hands_on, has_closed, has_woken, issued, leaves, leaves_with_token, looked, or}
 pub use Rattle.mb_segment.specs.Moves.{owes_all, owes_wake, same, sees_cut, sees_full, sees_mark, sees_taken, told}
-pub use Rattle.mb_segment.specs.Moves.{Below, MaySend, MayTake, SawAllTaken, did_cut, got_at, mark_in, marked_to, sees_empty, sent_at, took, took_back, wakes_up, with_duty}
+pub use Rattle.mb_segment.specs.Moves.{Below, MaySend, MayTake, SawAllTaken, did_cut, found_empty, got_at, is_over, mark_in, marked_to, sees_empty, sent_at, took, took_back, wakes_up, with_duty}
 pub use Rattle.mb_segment.specs.Steps.{Sat, always, asking, becomes, claiming, drawing, drawing_picked, ending, exchanging}
 pub use Rattle.mb_segment.specs.Steps.{if_none_waits, looking, seeing_cut, seeing_mark, seeing_taken}
 pub use Rattle.mb_segment.specs.Whole.{IsWhole, Stand}

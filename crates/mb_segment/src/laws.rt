@@ -4,7 +4,7 @@ ghost use mathlib.Core.Option.{some};
 ghost use lib.ListN.{get_elem?};
 ghost use Rattle.mb_segment.specs.{Claim, Entry, Has, IsCut, IsOfPass, IsOver, IsPassOf, IsViewOf, Issuer, Keeps, Match, Member};
 ghost use Rattle.mb_segment.specs.{Rises, SawAllTaken, SegmentState, View, all_entries, claimed_in, closing, drawn_in};
-ghost use Rattle.mb_segment.specs.{got_by, listed, new_hub, owed, sent_by, sleeping, total};
+ghost use Rattle.mb_segment.specs.{got_by, is_over, listed, new_hub, owed, sent_by, sleeping, total};
 
 /// All positions drawn stand in one order, and the first of them are those claimed. What a pass sent and what it
 /// received stand there in its own order. What is drawn or claimed next stands after all that was before.
@@ -57,6 +57,8 @@ pub fn over_is_true<T>()
         → v.sight.full ≡ true → drawn_in s ≡ length s.homes }
     ensures cut { (s : SegmentState T) (k : Keeps s) (n : ℕ) (v : View T) → IsViewOf s n v
         → v.sight.cut ≡ true → IsCut s }
+    ensures over_all { (s : SegmentState T) (k : Keeps s) (n : ℕ) (v : View T) → IsViewOf s n v
+        → is_over v ≡ true → IsOver s }
 {}
 
 /// Only a pass cuts the segment, and only one: its account says so. Before a pass is issued, nothing is drawn or cut.

@@ -1,7 +1,7 @@
 //! The calls of receivers that never wait.
-ghost use Rattle.std.specs.Prelude.{Some, [], false, true, ◌<◌, ◌∷◌, ◌≡◌, ◌≤◌};
+ghost use Rattle.std.specs.Prelude.{Some, [], false, true, ◌+◌, ◌<◌, ◌∷◌, ◌≡◌, ◌≤◌};
 ghost use Rattle.mb_segment.specs.{Becomes, IsStill, MayTake, Member, Nothing, OfLeave, OfLook, OfRest, Reads, SawAllTaken, bare, done};
-ghost use Rattle.mb_segment.specs.{ended, enters, falls_asleep, held_by, leaves, leaves_with_token, looked, marked_to, spot, told, took};
+ghost use Rattle.mb_segment.specs.{ended, enters, falls_asleep, found_empty, held_by, leaves, leaves_with_token, looked, marked_to, spot, told, took};
 ghost use Rattle.mb_segment.specs.{view_in, wakes_up, with_duty};
 
 use crate::answers::{Leave, Look, Rest};
@@ -20,12 +20,14 @@ impl<T: Drop, A: Allocator + Drop> Segment<T, A> {
         ensures pass { IsStill pass.old pass.new }
         ensures held { held_by pass.new ≡ held_by pass.old }
         ensures mark { marked_to (view_in pass.old) ≤ marked_to (view_in pass.new) }
+        ensures found { found_empty (view_in pass.old) ≤ found_empty (view_in pass.new) }
         ensures answer { OfLook result
             (λ at. (at < self.now.size) × ((view_in pass.new).sight.ripe ≡ Some at)
             × (bare (view_in pass.new) ≡ bare (view_in pass.old)))
             (bare (view_in pass.new) ≡ bare (view_in pass.old))
             ((bare (view_in pass.new) ≡ with_duty looked (bare (view_in pass.old)))
             × SawAllTaken (view_in pass.new)
+            × (found_empty (view_in pass.new) ≡ found_empty (view_in pass.old) + 1)
             × ((view_in pass.new).sight.ripe ≡ (view_in pass.old).sight.ripe))
             (bare (view_in pass.new) ≡ told (with_duty looked (bare (view_in pass.old)))) }
     {
@@ -51,12 +53,14 @@ impl<T: Drop, A: Allocator + Drop> Segment<T, A> {
         ensures pass { IsStill pass.old pass.new }
         ensures held { held_by pass.new ≡ held_by pass.old }
         ensures mark { marked_to (view_in pass.old) ≤ marked_to (view_in pass.new) }
+        ensures found { found_empty (view_in pass.old) ≤ found_empty (view_in pass.new) }
         ensures answer { OfLook result
             (λ at. (at < self.now.size) × ((view_in pass.new).sight.ripe ≡ Some at)
             × (bare (view_in pass.new) ≡ bare (view_in pass.old)))
             (bare (view_in pass.new) ≡ bare (view_in pass.old))
             ((bare (view_in pass.new) ≡ with_duty falls_asleep (bare (view_in pass.old)))
             × SawAllTaken (view_in pass.new)
+            × (found_empty (view_in pass.new) ≡ found_empty (view_in pass.old) + 1)
             × ((view_in pass.new).sight.ripe ≡ (view_in pass.old).sight.ripe))
             (bare (view_in pass.new) ≡ told (with_duty done (bare (view_in pass.old)))) }
     {

@@ -65,6 +65,8 @@ pub struct Sight {
     pub cut: bool,
     /// At a moment at which as many positions as this were drawn, all of them were claimed.
     pub empty: u64,
+    /// How often it looked and found that none waited.
+    pub found: u64,
 }
 
 /// What a pass has learned by its own sends and receives: as many positions as this are drawn, and claimed.

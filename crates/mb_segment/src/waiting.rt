@@ -1,7 +1,7 @@
 //! The calls that wait: one send, and one receive that sleeps until a value comes.
 ghost use Rattle.std.specs.Prelude.{IfErr, IfNone, IfOk, IfSome, [], false, true, ℕ, ◌+◌, ◌++◌, ◌<◌, ◌∷◌, ◌≡◌, ◌≤◌, ◌⊎◌};
 ghost use Rattle.mb_segment.specs.{Becomes, IsCalm, IsFree, IsStill, MaySend, MayTake, Member, Nothing, OfFound, OfNotSent, OfReceived};
-ghost use Rattle.mb_segment.specs.{SawAllTaken, bare, calm, did_cut, done, ended, enters, falls_asleep, gives_up, got_at, has_closed, has_woken, held_by};
+ghost use Rattle.mb_segment.specs.{SawAllTaken, bare, calm, did_cut, done, ended, enters, falls_asleep, found_empty, gives_up, got_at, has_closed, has_woken, held_by};
 ghost use Rattle.mb_segment.specs.{leaves, looked, marked_to, sees_cut, sent_at, told, took, value_of, view_in, wakes_up, with_duty};
 
 use crate::answers::{Cut, Draw, Leave, Look, Rest, Wake};
@@ -140,12 +140,14 @@ impl<T: Drop, A: Allocator + Drop> Segment<T, A> {
         ensures pass { IsStill pass.old pass.new }
         ensures held { held_by pass.new ≡ [] }
         ensures mark { marked_to (view_in pass.old) ≤ marked_to (view_in pass.new) }
+        ensures found { found_empty (view_in pass.old) ≤ found_empty (view_in pass.new) }
         ensures answer { OfFound result
             (λ x. (at : ℕ)
             × (bare (view_in pass.new) ≡ got_at at x (with_duty looked (bare (view_in pass.old))))
             × MayTake (view_in pass.old))
             ((bare (view_in pass.new) ≡ with_duty looked (bare (view_in pass.old)))
-            × SawAllTaken (view_in pass.new))
+            × SawAllTaken (view_in pass.new)
+            × (found_empty (view_in pass.old) < found_empty (view_in pass.new)))
             (bare (view_in pass.new) ≡ told (with_duty looked (bare (view_in pass.old)))) }
     {
         for _ in rt.forever() {
@@ -172,12 +174,14 @@ impl<T: Drop, A: Allocator + Drop> Segment<T, A> {
         ensures pass { IsStill pass.old pass.new }
         ensures held { held_by pass.new ≡ [] }
         ensures mark { marked_to (view_in pass.old) ≤ marked_to (view_in pass.new) }
+        ensures found { found_empty (view_in pass.old) ≤ found_empty (view_in pass.new) }
         ensures answer { OfFound result
             (λ x. (at : ℕ)
             × (bare (view_in pass.new) ≡ got_at at x (with_duty done (bare (view_in pass.old))))
             × MayTake (view_in pass.old))
             ((bare (view_in pass.new) ≡ with_duty falls_asleep (bare (view_in pass.old)))
-            × SawAllTaken (view_in pass.new))
+            × SawAllTaken (view_in pass.new)
+            × (found_empty (view_in pass.old) < found_empty (view_in pass.new)))
             (bare (view_in pass.new) ≡ told (with_duty done (bare (view_in pass.old)))) }
     {
         for _ in rt.forever() {
@@ -328,8 +332,10 @@ impl<T: Drop, A: Allocator + Drop> Segment<T, A> {
             (λ x. (at : ℕ) × (bare (view_in pass.new) ≡ got_at at x (calm (view_in pass.old)))
             × MayTake (view_in pass.old))
             (bare (view_in pass.new) ≡ told (calm (view_in pass.old)))
-            ((bare (view_in pass.new) ≡ calm (view_in pass.old)) × SawAllTaken (view_in pass.new)) }
+            ((bare (view_in pass.new) ≡ calm (view_in pass.old)) × SawAllTaken (view_in pass.new)
+            × (found_empty (view_in pass.old) < found_empty (view_in pass.new))) }
         ensures mark { marked_to (view_in pass.old) ≤ marked_to (view_in pass.new) }
+        ensures found { found_empty (view_in pass.old) ≤ found_empty (view_in pass.new) }
         ensures free { IsFree pass.new }
     {
         for _ in rt.forever() {

@@ -5,7 +5,8 @@ use lib.ListN.{get_elem?}
 use Rattle.mb_channel.specs.Types.{Home}
 use Rattle.mb_channel.specs.LifeSamples.{one_got, one_sent, two_sent, visit}
 use Rattle.mb_channel.specs.HomeSamples.{all_visits, last_of_two}
-use Rattle.mb_channel.specs.Homes.{IsNone, IsWhole, Made, came_back, first_view, made_by, made_in}
+use Rattle.mb_channel.specs.Homes.{AreLed, IsNone, IsOver, IsWhole, Made, came_back, first_view, how_many, made_by, made_in, past_of}
+use Rattle.mb_channel.proofs.Views.{once_more}
 use Rattle.mb_channel.proofs.home_samples.sample_whole.Goals as goal
 
 hubs_know : (h g : Home ℕ) → came_back h ≡ one_got ∷ two_sent ∷ [] → came_back g ≡ one_sent ∷ []
@@ -32,9 +33,21 @@ nobody_else n ne none_ =
     else (if second i then visit 0 one_got ∷ (if first i then visit 0 two_sent ∷ [] else [])
     else (if first i then visit 0 two_sent ∷ [] else []))
 
+once_each : (n : ℕ) → how_many n (past_of last_of_two ∷ last_of_two.ended) ≤ 1
+once_each n = once_more (past_of last_of_two) n (how_many n last_of_two.ended)
+    (how_many n (past_of last_of_two ∷ last_of_two.ended)) refl
+    (once_more (record { number = 1; visits = visit 0 one_got ∷ [] }) n 0
+    (how_many n last_of_two.ended) refl (omega arith) (λ _. refl))
+    (λ q. ap (λ i. how_many i last_of_two.ended) (sym q))
+
+leads_two : (h g : Home ℕ) → IsOver h → AreLed (h ∷ g ∷ [])
+leads_two h g over zero lt = (h, refl, over)
+leads_two h g over (suc j) lt = absurd (omega (arith, lt))
+
 pub returns-clause-two : goal.returns-clause-two
-returns-clause-two c h g a b out_h out_g = record {
+returns-clause-two c h g over a b out_h out_g = record {
   all = all_visits;
+  leads = leads_two h g over;
   agrees = record {
     here = hubs_know h g a b;
     none_behind = none_behind;
@@ -42,9 +55,17 @@ returns-clause-two c h g a b out_h out_g = record {
   };
   own = (refl, (omega arith, (omega arith, tt)));
   others = ((refl, (1, (omega arith, tt))), tt);
+  once = once_each;
   nobody = nobody_else;
   empty = λ _. (out_h, (out_g, tt));
 }
+
+pub returns-clause-open_ : goal.returns-clause-open_
+returns-clause-open_ c h g no_ w = let o = w.leads 0 (omega arith) in
+    no_ (subst (λ x. IsOver x) (sym (some-injective h o.0 o.1)) o.2)
+
+pub returns-clause-twice : goal.returns-clause-twice
+returns-clause-twice c hs w = let o = w.once 1 in absurd (omega (arith, o))
 
 pub returns-clause-out : goal.returns-clause-out
 returns-clause-out c h g one w = let none_ = (w.empty refl).0 in absurd (omega arith)

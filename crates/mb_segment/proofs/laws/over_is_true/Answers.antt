@@ -1,4 +1,5 @@
-use Rattle.mb_segment.proofs.Base.{ap, arith, length, slice_index, ⊎_elim, ◌-◌, ◌<◌, ◌≡◌}
+use Rattle.mb_segment.proofs.Base.{ap, arith, inl, inr, length, refl, slice_index, true, false, Bool, ⊎_elim, ◌-◌, ◌<◌, ◌⊎◌, ◌≡◌}
+use Rattle.std.specs.Prelude.{◌||◌}
 use Rattle.mb_segment.specs.Vocabulary.{drawn}
 use Rattle.mb_segment.proofs.Spots.{nothing_left}
 use Rattle.mb_segment.proofs.Kept.{at0, at1}
@@ -35,3 +36,17 @@ returns-clause-full g c s k n v at on =
 
 pub returns-clause-cut : goal.returns-clause-cut
 returns-clause-cut g c s k n v at on = let f = (k.fits n v at).cut_ on in let e = at0 s k in omega arith
+
+either : (a b : Bool) → a || b ≡ true → (a ≡ true) ⊎ (b ≡ true)
+either true b e = inl refl
+either false b e = inr e
+
+pub returns-clause-over_all : goal.returns-clause-over_all
+returns-clause-over_all g c s k n v at is =
+    let f = k.fits n v at in
+    let e = at0 s k in let d = drawn_is s k in let i = k.within in let m = k.sized in let l = k.small in ⊎_elim
+    (λ on. ⊎_elim (λ on. all_drawn k.cut (length k.states - drawn k.history) (length k.states)
+    (slice_index s.words 0) (length s.homes) (f.over on).0 (omega arith) (omega arith) (omega arith))
+    (λ on. let q = f.full on in omega arith) (either v.over v.sight.full on))
+    (λ on. let q = f.cut_ on in omega arith)
+    (either (v.over || v.sight.full) v.sight.cut is)

@@ -5,5 +5,5 @@ use Rattle.mb_channel.proofs.channel.Channel.hire_sender.Given as goal
 abbrev pub invariant-loop : goal.invariant-loop
 invariant-loop g l =
     (goal.iterator-loop g).can_next l.iterator' × (goal.iterator-loop g).is_finite l.iterator'
-    × (l.sender.end.chair.table_id ≡ l.initial.sender.end.chair.table_id)
-    × (view_of l.sender.end ≡ view_of l.initial.sender.end) × (l.sender.end.inside ≡ l.initial.sender.end.inside)
+    × (l.end.chair.table_id ≡ l.initial.end.chair.table_id)
+    × (view_of l.end ≡ view_of l.initial.end) × (l.end.inside ≡ l.initial.end.inside)

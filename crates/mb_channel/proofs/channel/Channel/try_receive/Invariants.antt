@@ -1,9 +1,11 @@
 use Rattle.std.proofs.Common.{◌≡◌}
 use Rattle.mb_channel.specs.Ends.{IsSame, got_by, sent_by}
+use Rattle.mb_channel.specs.Receives.{IsLater}
 use Rattle.mb_channel.proofs.channel.Channel.try_receive.Given as goal
 
 abbrev pub invariant-loop : goal.invariant-loop
 invariant-loop g l =
     IsSame l.initial.receiver.end l.receiver.end
+    × IsLater l.initial.receiver.end l.receiver.end
     × (sent_by l.receiver.end ≡ sent_by l.initial.receiver.end)
     × (got_by l.receiver.end ≡ got_by l.initial.receiver.end)

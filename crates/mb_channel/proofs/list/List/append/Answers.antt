@@ -37,6 +37,10 @@ unlock-requires-2-clause-homes g c = let x = c.try_lock.ensures.locked c.if-not-
             ∙ ap (λ (v : Knows _). v.sends) x.4.1)) c.requires.sender,
         ap (λ (v : Knows _). v.may_add) same ∙ ap (λ (v : Knows _). v.may_add) saw
             ∙ ap (λ (v : Knows _). v.holds) x.4.1,
-        subst (λ l. Longer l y.2) (ap (λ (v : Knows _). v.before) (sym same)) y.4,
+        ap (λ (v : Knows _). v.orderly) same ∙ ap (λ (v : Knows _). v.orderly) saw
+            ∙ ap (λ (v : Knows _). v.orderly) x.4.1 ∙ c.requires.orderly,
+        subst (λ n. Longer n c.add_home-added.new.chair.me.0.before y.2) (sym (ap (λ (v : Knows _). v.at) same
+            ∙ ap (λ (v : Knows _). v.at) saw ∙ ap (λ (v : Knows _). v.at) x.4.1 ∙ c.requires.here))
+            (subst (λ l. Longer c.args.at l y.2) (ap (λ (v : Knows _). v.before) (sym same)) y.4),
       ),
     )

@@ -66,9 +66,13 @@ tell-requires-clause-last g c = let x = c.try_lock.ensures.locked c.if-not-try_l
     let behind = c.in-NotYet.ensures.answer.1 in
     let near = near_last x.2 c.args.chair.now.me.0.at x.4.0.0 in
     let here = c.requires.here.0 in
+    let same = c.get_pass.ensures.view ∙ x.4.1 in
     let old = ap (λ (v : Knows _). length v.before) x.4.1 in
-    let now = ap (λ (v : Knows _). length v.before) c.get_pass.ensures.view in
-    omega arith
+    let now = ap (λ (v : Knows _). length v.before) c.get_pass.ensures.view in (
+      omega arith,
+      ap (λ (v : Knows _). v.at) same ∙ here,
+      ap (λ (v : Knows _). v.orderly) same ∙ c.requires.orderly,
+    )
 
 pub unlock-requires-in-Crowded-clause-homes : goal.unlock-requires-in-Crowded-clause-homes
 unlock-requires-in-Crowded-clause-homes g c = let y = c.in-Crowded.ensures.answer in

@@ -37,6 +37,6 @@ part-requires-clause-poor g c = let x = c.try_lock.ensures.locked c.if-not-try_l
 pub returns-clause-left : goal.returns-clause-left
 returns-clause-left g c = let x = c.try_lock.ensures.locked c.if-not-try_lock.false in let e = c.part.ensures.left in (
   e.0,
-  e.1 ∙ ap (λ (z : Knows _). left_segment (pass_view c.args.pass).account c.part.result (unlocked z)) x.4.1,
+  e.1 ∙ ap (λ (z : Knows _). left_segment (pass_view c.args.pass) c.part.result (unlocked z)) x.4.1,
   e.2,
 )

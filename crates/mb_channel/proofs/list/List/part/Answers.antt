@@ -24,7 +24,7 @@ pub returns-clause-left : goal.returns-clause-left
 returns-clause-left g c = let y = c.give_pass-done.ensures.homes in
     let e = c.give_left.ensures.view in (
       e.1,
-      e.0 ∙ ap (λ (z : Knows _). left_segment g.X.Stay.account c.give_pass-done.result (unlocked z))
+      e.0 ∙ ap (λ (z : Knows _). left_segment g.X.Stay.knew c.give_pass-done.result (unlocked z))
           c.give_pass-done.ensures.view
           ∙ ap (λ a. left_segment a c.give_pass-done.result (unlocked c.args.chair.now.me.0)) c.requires.picked,
       done_if (pass_view c.args.pass) c.give_pass-done.result c.args.chair.now.me.0.before y.2 c.args.at y.4,

@@ -1,4 +1,4 @@
-use Rattle.std.proofs.Common.{sym, ap, ◌∙◌, inl}
+use Rattle.std.proofs.Common.{sym, ap, ◌∙◌}
 use Rattle.mb_channel.specs.declared.view.Knows.{Knows}
 use Rattle.mb_channel.proofs.list.List.tell.Goals as goal
 
@@ -17,16 +17,16 @@ tell_last-requires-then-sees_no_sender-clause-homes g c = let y = c.requires.hom
   c.sees_no_sender.ensures.held ∙ c.sees_closed.ensures.held ∙ y.1,
   y.2,
   y.3,
-  y.4 ∙ sym (ap (λ (v : Knows _). v.before) (c.sees_no_sender.ensures.none c.if-sees_no_sender.true)
+  y.4 ∙ sym (ap (λ (v : Knows _). v.before) (c.sees_no_sender.ensures.none c.if-sees_no_sender.true).0
       ∙ ap (λ (v : Knows _). v.before) (c.sees_closed.ensures.open_ c.if-sees_closed.false)),
 )
 
-pub unlock-requires-clause-homes : goal.unlock-requires-clause-homes
-unlock-requires-clause-homes g c = let y = c.requires.homes in (
+pub tell_none-requires-clause-homes : goal.tell_none-requires-clause-homes
+tell_none-requires-clause-homes g c = let y = c.requires.homes in (
   y.0,
   c.sees_no_sender.ensures.held ∙ c.sees_closed.ensures.held ∙ y.1,
   y.2,
   y.3,
-  inl (y.4 ∙ sym (ap (λ (v : Knows _). v.before) (c.sees_no_sender.ensures.some c.if-sees_no_sender.false)
-      ∙ ap (λ (v : Knows _). v.before) (c.sees_closed.ensures.open_ c.if-sees_closed.false))),
+  y.4 ∙ sym (ap (λ (v : Knows _). v.before) (c.sees_no_sender.ensures.some c.if-sees_no_sender.false)
+      ∙ ap (λ (v : Knows _). v.before) (c.sees_closed.ensures.open_ c.if-sees_closed.false)),
 )

@@ -6,8 +6,8 @@ use Rattle.mb_channel.proofs.list.List.tell_last.Goals as goal
 pub give-requires-clause-lawful : goal.give-requires-clause-lawful
 give-requires-clause-lawful g c = let y = c.requires.homes in let h = c.requires.held in
     subst (λ f. MayGive f 1 c.args.chair.now.id c.args.chair.now.me) (sym c.requires.picked)
-    (unlocks_told c.args.last 1 c.args.chair.now.id c.args.chair.now.me y.0 y.2 y.3 y.1 h.0 h.1 y.4 c.requires.last
-    c.requires.seen)
+    (unlocks_told c.args.last 1 c.args.chair.now.id c.args.chair.now.me y.0 y.2 y.3 y.1 h.0 h.1 y.4
+    c.requires.last.0 c.requires.seen (c.requires.last.1, c.requires.last.2))
 
 pub returns-clause-view : goal.returns-clause-view
 returns-clause-view g c = let e = c.give.ensures.view in

@@ -1,0 +1,14 @@
+use Rattle.std.proofs.Common.{sym, ap, ◌∙◌, subst, inl}
+use Rattle.mb_channel.specs.Homes.{MayGive, unlocked}
+use Rattle.mb_channel.proofs.Chairs.{unlocks_found}
+use Rattle.mb_channel.proofs.list.List.tell_none.Goals as goal
+
+pub give-requires-clause-lawful : goal.give-requires-clause-lawful
+give-requires-clause-lawful g c = let y = c.requires.homes in let h = c.requires.held in
+    subst (λ f. MayGive f 1 c.args.chair.now.id c.args.chair.now.me) (sym c.requires.picked)
+    (unlocks_found (Rattle.std.specs.Prelude.Some c.args.at) 1 c.args.chair.now.id c.args.chair.now.me y.0 y.2 y.3 y.1
+    h.0 h.1 (inl y.4))
+
+pub returns-clause-view : goal.returns-clause-view
+returns-clause-view g c = let e = c.give.ensures.view in
+    (e.0 ∙ ap (λ f. f (unlocked c.args.chair.now.me.0)) c.requires.picked, e.1)
