@@ -1,9 +1,10 @@
 //! Which values were sent and received.
 
 use std::alloc::{AllocError, Global};
+use std::fmt;
 use std::sync::atomic::{AtomicU64, Ordering};
 
-/// What became of the values of a round. All threads write into it.
+/// What became of the values of several rounds. All threads write into it.
 #[derive(Drop)]
 pub struct Account {
     /// How many values there are: the numbers below this one.
@@ -25,6 +26,13 @@ pub struct Account {
     pub misjudged: AtomicU64,
     /// How often a call was refused.
     pub refused: AtomicU64,
+    /// How many rounds had no memory for their workers, so that some may not have run.
+    pub given_up: AtomicU64,
+}
+
+/// What a count is now.
+pub fn now(count: &AtomicU64) -> u64 {
+    count.load(Ordering::SeqCst)
 }
 
 /// Adds to a count.
@@ -51,6 +59,7 @@ impl Account {
             dropped: AtomicU64::new(0),
             misjudged: AtomicU64::new(0),
             refused: AtomicU64::new(0),
+            given_up: AtomicU64::new(0),
         })
     }
 
@@ -76,11 +85,54 @@ impl Account {
     }
 
     /// How many values were received, each counted once.
-    pub fn once(&self) -> u64 {
+    fn once(&self) -> u64 {
         let mut once = 0u64;
         for word in &self.received {
             once = once.wrapping_add(u64::from(word.load(Ordering::SeqCst).count_ones()));
         }
         once
+    }
+
+    /// How many values were sent and not received, if no round was given up.
+    fn lost(&self) -> u64 {
+        match now(&self.given_up) {
+            0 => now(&self.sent).abs_diff(self.once()),
+            _ => 0,
+        }
+    }
+
+    /// Whether something happened that may not happen, whatever memory there is.
+    pub fn has_fault(&self) -> bool {
+        let wrong = [
+            now(&self.again),
+            now(&self.unknown),
+            now(&self.disordered),
+            now(&self.left),
+            now(&self.misjudged),
+            self.lost(),
+        ];
+        wrong.iter().any(|count| *count != 0)
+    }
+
+    /// Whether a call was refused, or a round was given up.
+    pub fn lacks_memory(&self) -> bool {
+        now(&self.refused) != 0 || now(&self.given_up) != 0
+    }
+}
+
+impl fmt::Display for Account {
+    fn fmt<W: fmt::Write>(&self, f: &mut fmt::Formatter<W>) -> fmt::Result {
+        let (sent, once, lost) = (now(&self.sent), self.once(), self.lost());
+        let (again, unknown) = (now(&self.again), now(&self.unknown));
+        let (disordered, left) = (now(&self.disordered), now(&self.left));
+        let (misjudged, refused) = (now(&self.misjudged), now(&self.refused));
+        let given_up = now(&self.given_up);
+        write!(f, "{sent} values sent, {once} received once, {lost} lost, ")?;
+        write!(
+            f,
+            "{again} again, {unknown} unknown, {disordered} out of order, "
+        )?;
+        write!(f, "{left} left, {misjudged} ends misjudged, ")?;
+        write!(f, "{refused} calls refused, {given_up} rounds given up")
     }
 }

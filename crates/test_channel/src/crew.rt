@@ -35,7 +35,7 @@ pub fn senders<R: Wait>(
             sender: channel.another_sender(rt, sender).ok_or(AllocError)?,
             keeper: channel.another_receiver(rt, receiver).ok_or(AllocError)?,
             draws: Draws::new(round.seed, number, round.drops),
-            first: number.wrapping_mul(round.each),
+            first: round.first.wrapping_add(number.wrapping_mul(round.each)),
             is_patient: true,
         };
         crew.push(sending)?;
@@ -65,6 +65,7 @@ pub fn receivers<R: Wait>(
             receiver: channel.another_receiver(rt, receiver).ok_or(AllocError)?,
             draws: Draws::new(round.seed, number.wrapping_add(32), round.drops),
             next,
+            first: round.first,
             each: round.each,
         };
         crew.push(receiving)?;

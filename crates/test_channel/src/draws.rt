@@ -36,17 +36,6 @@ pub enum Fate {
     Left,
 }
 
-/// How a worker receives next.
-#[derive(Clone, Copy)]
-pub enum Way {
-    /// It waits.
-    Waits,
-    /// It waits for so many microseconds.
-    WaitsFor(u64),
-    /// It does not wait.
-    Tries,
-}
-
 /// The draws of a worker.
 #[derive(Drop)]
 pub struct Draws {
@@ -81,14 +70,5 @@ impl Draws {
             _ => Fate::Returned,
         };
         Some(fate)
-    }
-
-    /// How a worker receives next.
-    pub fn way(&mut self) -> Way {
-        match self.below(2) {
-            0 => Way::Tries,
-            1 => Way::WaitsFor(self.below(8)),
-            _ => Way::Waits,
-        }
     }
 }

@@ -4,6 +4,7 @@
 //! channel of its own. All is drawn from the seed, except for the order of the threads.
 #![tactic(auto)]
 
+use std::alloc::AllocError;
 use std::io;
 use std::process::ExitCode;
 use std::sync::Wait;
@@ -16,11 +17,9 @@ mod draws;
 mod receiving;
 mod round;
 mod sending;
-mod totals;
 
-use account::Account;
-use round::{Round, run};
-use totals::Totals;
+use account::{Account, add};
+use round::{Round, SHORT, run};
 
 /// The program's status if a value was not received as it should be, or a channel did not end as it should.
 const FAULT: u8 = 1;
@@ -42,15 +41,26 @@ fn numbers(words: &[String]) -> Option<(u64, u64, u64)> {
     Some((seed, values, rounds))
 }
 
-/// Makes a round with an account of its own, and adds its totals.
-fn add<R: AllocGlobal + Clock + Threads + Wait + Sync>(rt: &R, totals: &mut Totals, round: &Round) {
-    match Account::new(rt.alloc(), round.values()) {
-        Ok(account) => {
-            let given_up = run(rt, round, &account).is_err();
-            totals.add(&Totals::of(&account, given_up));
+/// Makes the soak, and then the short rounds. Returns an account of each.
+fn run_all<R: AllocGlobal + Clock + Threads + Wait + Sync>(
+    rt: &R,
+    seed: u64,
+    values: u64,
+    rounds: u64,
+) -> Result<(Account, Account), AllocError> {
+    let soak = Account::new(rt.alloc(), values)?;
+    for half in 0..2 {
+        if run(rt, &Round::soak(seed, half, values), &soak).is_err() {
+            add(&soak.given_up, 1);
         }
-        Err(_) => totals.given_up = true,
     }
+    let short = Account::new(rt.alloc(), rounds.saturating_mul(SHORT))?;
+    for number in 0..rounds {
+        if run(rt, &Round::short(seed, number), &short).is_err() {
+            add(&short.given_up, 1);
+        }
+    }
+    Ok((soak, short))
 }
 
 fn main(rt: HostRuntime) -> io::Result<ExitCode> {
@@ -59,19 +69,16 @@ fn main(rt: HostRuntime) -> io::Result<ExitCode> {
         eprintln!(rt; "usage: test_channel SEED VALUES ROUNDS")?;
         return Ok(ExitCode::from(REFUSED));
     };
-    let (mut soak, mut pills) = (Totals::none(), Totals::none());
-    for half in 0..2 {
-        add(&rt, &mut soak, &Round::soak(seed, half, values));
-    }
-    for number in 0..rounds {
-        add(&rt, &mut pills, &Round::short(seed, number));
-    }
+    let Ok((soak, short)) = run_all(&rt, seed, values, rounds) else {
+        eprintln!(rt; "no memory for an account")?;
+        return Ok(ExitCode::from(NO_MEMORY));
+    };
     println!(rt; "soak: {soak}")?;
-    println!(rt; "{rounds} rounds: {pills}")?;
-    if soak.has_fault() || pills.has_fault() {
+    println!(rt; "{rounds} rounds: {short}")?;
+    if soak.has_fault() || short.has_fault() {
         return Ok(ExitCode::from(FAULT));
     }
-    if soak.lacks_memory() || pills.lacks_memory() {
+    if soak.lacks_memory() || short.lacks_memory() {
         return Ok(ExitCode::from(NO_MEMORY));
     }
     Ok(ExitCode::SUCCESS)

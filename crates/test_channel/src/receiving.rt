@@ -3,7 +3,7 @@ ghost use Rattle.std.specs.Prelude.{◌≡◌};
 ghost use Rattle.mb_channel.specs.Ends.{IsEndOf};
 
 use crate::account::{Account, add};
-use crate::draws::{Draws, Fate, Sent, Way};
+use crate::draws::{Draws, Fate, Sent};
 use mb_channel::{Channel, Receiver, Refused, Tried};
 use std::mem::replace;
 use std::sync::Wait;
@@ -17,7 +17,8 @@ pub struct Receiving {
     pub draws: Draws,
     /// For each sender, the least of its values that may come next.
     pub next: Vec<u64>,
-    /// How many values each sender has.
+    /// The first value of all, and how many each sender has.
+    pub first: u64,
     pub each: u64,
 }
 
@@ -57,8 +58,8 @@ impl Receiving {
         requires belongs { IsEndOf channel.now self.old.receiver.end }
         ensures belongs { IsEndOf channel.now self.new.receiver.end }
     {
-        match (self.draws.way(), Instant::now(rt)) {
-            (Way::Tries, _) => match channel.try_receive(&mut self.receiver) {
+        match (self.draws.below(2), Instant::now(rt)) {
+            (0, _) => match channel.try_receive(&mut self.receiver) {
                 Ok(Tried::Value(sent)) => Ok(Some(sent)),
                 Ok(_) => {
                     yield_now();
@@ -66,7 +67,8 @@ impl Receiving {
                 }
                 Err(why) => Err(why),
             },
-            (Way::WaitsFor(micros), Ok(now)) => {
+            (1, Ok(now)) => {
+                let micros = self.draws.below(8);
                 let soon = now
                     .checked_add(Duration::from_micros(micros))
                     .unwrap_or(now);
@@ -84,7 +86,8 @@ impl Receiving {
         ensures receiver { self.new.receiver ≡ self.old.receiver }
     {
         account.receive(value);
-        let sender = value.checked_div(self.each).unwrap_or(0);
+        let place = value.wrapping_sub(self.first);
+        let sender = place.checked_div(self.each).unwrap_or(0);
         if let Some(next) = self.next.get_mut(sender as usize) {
             if value < *next {
                 add(&account.disordered, 1);

@@ -4,18 +4,20 @@ ghost use Rattle.std.specs.Thread.{IsSync};
 ghost use Rattle.mb_channel.specs.Ends.{IsEndOf};
 ghost use Rattle.test_channel.specs.Crew.{IsReceiving, IsSending, IsThere};
 
-use crate::account::{Account, add};
+use crate::account::{Account, add, now};
 use crate::crew::{give_all, receive_all, receivers, send_all, senders};
 use crate::draws::{Draws, Drops, Sent};
 use mb_channel::{Channel, Ending, Receiver, Sender};
 use std::alloc::AllocError;
 use std::sync::Wait;
-use std::sync::atomic::Ordering;
 use std::thread::{Threads, join};
 use std::time::Clock;
 
 /// Bytes for the pills and for the end, if all other memory is in use.
 const RESERVE: usize = 1 << 16;
+
+/// How many values a short round has at most.
+pub const SHORT: u64 = 2048;
 
 /// What a round has.
 #[derive(Clone, Copy)]
@@ -23,6 +25,8 @@ pub struct Round {
     pub seed: u64,
     pub senders: u64,
     pub receivers: u64,
+    /// The first of its values.
+    pub first: u64,
     /// How many values each sender sends.
     pub each: u64,
     pub drops: Drops,
@@ -35,6 +39,7 @@ impl Round {
             seed: seed.wrapping_add(half),
             senders: 4,
             receivers: 4,
+            first: half.wrapping_mul(values / 2),
             each: values / 8,
             drops: if half == 0 {
                 Drops::Nothing
@@ -52,6 +57,7 @@ impl Round {
             seed,
             senders: draws.below(2).saturating_add(1),
             receivers: draws.below(2).saturating_add(1),
+            first: number.wrapping_mul(SHORT),
             each: draws.below(9),
             drops: if number % 2 == 0 {
                 Drops::Nothing
@@ -59,11 +65,6 @@ impl Round {
                 Drops::Anything
             },
         }
-    }
-
-    /// How many values all senders send.
-    pub fn values(&self) -> u64 {
-        self.each.wrapping_mul(self.senders)
     }
 }
 
@@ -112,12 +113,17 @@ fn count_left(account: &Account, ending: Ending<Sent>) {
 }
 
 /// Ends the channel by its last receiver, which succeeds exactly if no end was dropped.
-fn end<R: Wait>(rt: &R, account: &Account, channel: Channel<Sent>, last: Receiver<Sent>)
+fn end<R: Wait>(
+    rt: &R,
+    account: &Account,
+    channel: Channel<Sent>,
+    last: Receiver<Sent>,
+    is_whole: bool,
+)
     requires belongs { IsEndOf channel last.end }
 {
-    let none_was_dropped = account.dropped.load(Ordering::SeqCst) == 0;
     let ending = channel.end(rt, last);
-    if ending.is_some() != none_was_dropped {
+    if ending.is_some() != is_whole {
         add(&account.misjudged, 1);
     }
     if let Some(ending) = ending {
@@ -136,6 +142,7 @@ pub fn run<R: AllocGlobal + Clock + Threads + Wait + Sync>(
     let sending = senders(rt, rt.alloc(), &channel, &mut sender, &mut last, round)?;
     let receiving = receivers(rt, rt.alloc(), &channel, &mut last, round)?;
     let w = &channel;
+    let dropped = now(&account.dropped);
     let (each, pills) = (round.each, round.receivers);
     let (received, (sent, sender)) = join(
         rt,
@@ -157,6 +164,6 @@ pub fn run<R: AllocGlobal + Clock + Threads + Wait + Sync>(
     give_all(rt, w, &mut last, received?);
     give_all(rt, w, &mut last, sent?);
     w.give_sender(rt, &mut last, sender);
-    end(rt, account, channel, last);
+    end(rt, account, channel, last, now(&account.dropped) == dropped);
     Ok(())
 }
