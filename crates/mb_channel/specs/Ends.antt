@@ -30,9 +30,10 @@ IsFresh e = (sent_by e ≡ []) × (got_by e ≡ []) × ((view_of e).ended ≡ []
 abbrev pub IsEndOf : {T : Type 0} → Channel T → End T → Type 0
 IsEndOf c e = e.chair.table_id ≡ c.list.table.shared.table_id
 
--- if it knew that the list is closed, or that no sender is left, it still does
+-- if it knew that the list is closed, that no sender is left, or how many segments there are for ever, it still does
 abbrev pub StaysTold : {T : Type 0} → Knows T → Knows T → Type 0
 StaysTold v w = (v.shut ≡ true → w.shut ≡ true) × (v.alone ≡ true → w.alone ≡ true)
+    × (is_some v.last ≡ true → is_some w.last ≡ true)
 
 -- the same end, later: no other was given back to it meanwhile, and it counts for as many senders and receivers
 pub record IsSame {T : Type 0} (old new : End T) : Type 0 where

@@ -103,23 +103,24 @@ impl<T: Drop> Channel<T> {
     }
 
     /// The same by a receiver, which goes on receiving what is left. It makes an end that goes on for it, and takes that
-    /// back. It is `false`, and nothing is closed, if so many ends were made that they cannot be counted.
+    /// back. It is `false` if so many ends were made that they cannot be counted: then the channel is closed, but no
+    /// segment is cut.
     pub fn close_by_receiver<R: Wait>(&self, rt: &R, receiver: &mut Receiver<T>) -> bool
         requires channel { IsEndOf self.now receiver.old.end }
         ensures channel { IsEndOf self.now receiver.new.end }
         ensures logs { log_of receiver.new.end ≡ log_of receiver.old.end }
         ensures told { StaysTold (view_of receiver.old.end) (view_of receiver.new.end) }
-        ensures closed { result ≡ true → (view_of receiver.new.end).shut ≡ true }
+        ensures closed { (view_of receiver.new.end).shut ≡ true }
         ensures ended { result ≡ true → HasEnded receiver.new.end }
         ensures given { result ≡ true → (n : ℕ) × (given_to receiver.new.end
             ≡ given_to receiver.old.end ++ record { number = n; sent = []; got = [] } ∷ []) }
         ensures refused { result ≡ false
             → given_to receiver.new.end ≡ given_to receiver.old.end }
     {
+        self.close_list(rt, &mut receiver.end);
         if !self.count_one(rt, &mut receiver.end) {
             return false;
         }
-        self.close_list(rt, &mut receiver.end);
         let mut other = self.split::<AsNobody>(&mut receiver.end);
         self.cut_all(rt, &mut other);
         self.take_in(rt, &mut receiver.end, other);
