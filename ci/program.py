@@ -141,8 +141,8 @@ def false_samples(program):
         if printed(f"examples/script {name}", program).encode() != script:
             yield f"examples/script {name}", "it does not print the script of the tests"
     for page in sorted(glob.glob("**/*.md", root_dir=TOP, recursive=True)) + ["crates/mb_program/src/help.rt"]:
-        text = read(page).replace('";', "\n")
-        fenced = re.findall(r"^```(?!rust|c$)\w*\n(.*?)^```$", text, re.M | re.S)
+        text = re.sub(r"^```(?:rust|c)\n.*?^```$", "", read(page).replace('";', "\n"), flags=re.M | re.S)
+        fenced = re.findall(r"^```\w*\n(.*?)^```$", text, re.M | re.S)
         set_in = r"(?<=\n\n)(?:^ {4}.+\n)+" if page.endswith(".md") else r"(?:^  \S.*\n)+"
         for block in [*fenced, *re.findall(set_in, re.sub(r"^```.*?^```$", "", text, flags=re.M | re.S), re.M)]:
             shown, *samples = re.split(r"^\$ ", block, flags=re.M)
