@@ -1,0 +1,10 @@
+-- In the order of reading: a file uses only files above it.
+pub mod Base
+pub mod Turns
+pub mod Totals
+pub mod Halves
+pub mod Kept
+pub mod DrawMoves
+pub mod MarkMoves
+pub mod ClaimMoves
+pub mod ReadMoves

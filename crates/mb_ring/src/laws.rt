@@ -1,0 +1,1 @@
+//! The laws of a ring, over all histories. The functions compute nothing: their contracts are the laws.

@@ -1,0 +1,40 @@
+//! A ring: so many slots, used again and again, through which values go in one order.
+//!
+//! # Who does what
+//!
+//! - [`Ring`] has so many slots. [`Ring::new`] reserves all memory. No more values wait in it than it has slots.
+//! - [`Hub`] issues passes, and takes them back with what they sent and received ([`Ring::issue`],
+//!   [`Ring::take_back`]). [`Ring::end`] tells the whole history, and [`Left`] gives out what nobody received.
+//! - [`Pass`] is what one thread sends and receives with. It is linear: who has drawn a position and not marked it cannot
+//!   let go of it. [`Idle`] is a pass at rest, which moves to threads and may be dropped.
+//!
+//! # The calls
+//!
+//! None waits.
+//!
+//! - A sender draws a position for its value ([`Ring::draw`]), and marks it ([`Ring::mark`]). [`Ring::cut`] ends sending.
+//! - A receiver looks ([`Ring::look`]), claims what it found ([`Ring::claim`]), and reads it ([`Ring::read`]).
+//!
+//! # What is kept
+//!
+//! Between any two steps of any threads the words, the slots and what each pass knows agree with one history
+//! (`specs/Rule.antt`). [`laws`] says what follows for all histories.
+#![tactic(auto)]
+
+mod answers;
+mod ending;
+mod idle;
+pub mod laws;
+mod left;
+mod receiving;
+mod ring;
+mod rule;
+mod sending;
+mod view;
+mod words;
+
+pub use answers::Draw;
+pub use idle::Idle;
+pub use left::Left;
+pub use ring::{Hub, Pass, Ring};
+pub use view::{Sight, View};
