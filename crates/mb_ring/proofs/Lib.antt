@@ -8,3 +8,5 @@ pub mod DrawMoves
 pub mod MarkMoves
 pub mod ClaimMoves
 pub mod ReadMoves
+pub mod LookMoves
+pub mod CutMoves
