@@ -10,3 +10,6 @@ pub mod ClaimMoves
 pub mod ReadMoves
 pub mod LookMoves
 pub mod CutMoves
+pub mod PassMoves
+pub mod Places
+pub mod Endings
