@@ -30,6 +30,8 @@ mod receiving;
 mod ring;
 mod rule;
 mod sending;
+#[cfg(test)]
+mod tests;
 mod view;
 mod words;
 
