@@ -1,7 +1,7 @@
 -- The exchange that claims a position keeps the rule.
 use Rattle.mb_ring.proofs.Base.{Allows, List, Some, [], ap, append_assoc, arith, at_last, at_longer, either, get_elem?, inl, inr, length}
 use Rattle.mb_ring.proofs.Base.{length-append, none, refl, set_else, slice_index, slice_set, some, step, subst, suc, sym, takes, ℕ, ⊎_elim}
-use Rattle.mb_ring.proofs.Base.{◌%◌, ◌*◌, ◌++◌, ◌+◌, ◌<◌, ◌==◌, ◌∙◌, ◌∷◌, ◌≡◌, ◌≢◌, ◌≤◌}
+use Rattle.mb_ring.proofs.Base.{◌%◌, ◌*◌, ◌++◌, ◌+◌, ◌<◌, ◌==◌, ◌∙◌, ◌∷◌, ◌≡◌, ◌≢◌}
 use Rattle.mb_segment.proofs.Spots.{entries_append, entry_of, size_set, snoc_at, to_other, to_own}
 use Rattle.mb_segment.proofs.Halves.{match_kept, no_hub, no_reads, no_spent, no_writes}
 use Rattle.mb_ring.specs.Vocabulary.{Claim, Entry, Half, HalfFits, HasHalf, History, Homes, In, Keeps, Member, Nothing, Reads, Sat, Taken}
@@ -100,8 +100,8 @@ module _ {T : Type 0} (s : St T) (k : Keeps s) (i : ℕ) (v w : View T) (at : ge
       let le = f.0 in
       let l = f.2 in
       let ne : p.at ≢ old = λ q. (
-        let r : turn k.size k.states old ≡ 2 * old = subst (λ (m : ℕ). turn k.size k.states m ≡ 2 * m) q f.2 in
-        omega arith
+      let r : turn k.size k.states old ≡ 2 * old = subst (λ (m : ℕ). turn k.size k.states m ≡ 2 * m) q f.2 in
+      omega arith
       ) in (
         omega arith,
         subst (λ (l : List (Entry T)). get_elem? l p.at ≡ some record { by = j; value = p.value }) (sym all) f.1,

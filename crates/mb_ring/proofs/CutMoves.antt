@@ -1,8 +1,8 @@
 -- The exchange that cuts the ring keeps the rule.
-use Rattle.mb_ring.proofs.Base.{Allows, List, None, Option, Some, ap, arith, eq-eqb, either, get_elem?, inl, inr, keeps, ne_eqb, none, refl}
-use Rattle.mb_ring.proofs.Base.{slice_index, slice_set, step, subst, sym, ℕ, ⊎_elim, ◌*◌, ◌+◌, ◌<◌, ◌==◌, ◌∙◌, ◌∷◌, ◌≡◌, ◌≢◌, ◌≤◌}
+use Rattle.mb_ring.proofs.Base.{Allows, List, Option, Some, ap, arith, eq-eqb, either, inl, inr, keeps, ne_eqb, none, refl}
+use Rattle.mb_ring.proofs.Base.{slice_set, step, subst, sym, ℕ, ⊎_elim, ◌+◌, ◌<◌, ◌==◌, ◌∙◌, ◌∷◌, ◌≡◌}
 use Rattle.mb_segment.proofs.Halves.{match_kept, no_hub, no_spent, uncut}
-use Rattle.mb_ring.specs.Vocabulary.{Half, HalfFits, History, In, Keeps, Member, Nothing, Reads, Sat, Writes, did_cut, drawn}
+use Rattle.mb_ring.specs.Vocabulary.{Half, HalfFits, History, In, Keeps, Member, Nothing, Reads, Sat, Writes, did_cut}
 use Rattle.mb_ring.specs.Vocabulary.{exchanging, spot, taken}
 use Rattle.mb_ring.proofs.Halves.{half_stays}
 use Rattle.mb_ring.proofs.Kept.{Next, Same, at0, exchanges, moved, now}

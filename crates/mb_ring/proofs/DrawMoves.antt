@@ -9,7 +9,7 @@ use Rattle.mb_ring.specs.Vocabulary.{Undrawn, View, Waiting, Writes, all_entries
 use Rattle.mb_ring.specs.Vocabulary.{entries, sent_by, spot, spots_by, taken, turn}
 use Rattle.mb_ring.proofs.Turns.{lap_on, one_slot, other_slot}
 use Rattle.mb_ring.proofs.Halves.{half_else, half_here, heard_draw, may_send}
-use Rattle.mb_ring.proofs.Kept.{Goes, Next, Same, St, at0, exchanges, moved, resized}
+use Rattle.mb_ring.proofs.Kept.{Next, Same, St, at0, exchanges, moved, resized}
 
 -- pass i draws position `old` for the value x. It saw that its slot was free
 module _ {T : Type 0} (s : St T) (k : Keeps s) (i : ℕ) (v : View T) (at : get_elem? s.views i ≡ some v) (x : T)

@@ -1,6 +1,6 @@
 -- The end of a ring: with all passes back, its last state tells the whole history.
 use Rattle.mb_ring.proofs.Base.{List, Option, Some, [], ap, arith, get_elem?, length, refl, set_else, slice_index, slice_set, some, some-ne-none}
-use Rattle.mb_ring.proofs.Base.{some-injective, subst, suc, sym, true, zero, ℕ, ⊎_elim, ◌%◌, ◌*◌, ◌++◌, ◌+◌, ◌<◌, ◌∙◌, ◌∷◌, ◌≡◌, ◌≢◌, ◌≤◌}
+use Rattle.mb_ring.proofs.Base.{some-injective, subst, suc, sym, true, zero, ℕ, ⊎_elim, ◌%◌, ◌*◌, ◌++◌, ◌+◌, ◌<◌, ◌∙◌, ◌∷◌, ◌≡◌, ◌≤◌}
 use Rattle.mb_segment.proofs.Halves.{no_writes}
 use Rattle.mb_segment.proofs.Spots.{at_below, index_at}
 use Rattle.mb_ring.specs.Vocabulary.{Claim, Entry, Half, HasHalf, In, IsWhole, Issuer, Keeps, Member, Nothing, Role, Spent, Stand, View}

@@ -1,5 +1,5 @@
 -- What a step has to show, so that the rule holds after it.
-use Rattle.mb_ring.proofs.Base.{Act, Allows, List, Option, Some, State, Valid, [], ap, arith, at_set, carried_after}
+use Rattle.mb_ring.proofs.Base.{Act, Allows, List, Option, State, Valid, [], ap, arith, at_set, carried_after}
 use Rattle.mb_ring.proofs.Base.{either, exchanged, false, get_elem?, inl, inr, keeps, length, refl, set_again, slice_index, slice_set}
 use Rattle.mb_ring.proofs.Base.{some, stepped, subst, sym, ℕ, ⊎_elim, ◌*◌, ◌+◌, ◌<◌, ◌==◌, ◌∙◌, ◌∷◌, ◌≡◌, ◌≢◌, ◌≤◌}
 use Rattle.mb_segment.proofs.Spots.{below_length, size_set}

@@ -1,6 +1,6 @@
 -- The loads keep the rule: of the number drawn and claimed, and of the words of slots.
 use Rattle.mb_ring.proofs.Base.{Allows, Bool, List, None, Option, Some, [], ap, arith, false, true, dec_le, dec_lt, dite, get_elem?, keeps, length, none, refl}
-use Rattle.mb_ring.proofs.Base.{slice_index, some, step, subst, suc, sym, ℕ, ⊎_elim, ◌%◌, ◌*◌, ◌+◌, ◌<◌, ◌∙◌, ◌∷◌, ◌≡◌, ◌≤◌}
+use Rattle.mb_ring.proofs.Base.{slice_index, some, step, subst, suc, sym, ℕ, ⊎_elim, ◌%◌, ◌*◌, ◌+◌, ◌<◌, ◌∷◌, ◌≡◌, ◌≤◌}
 use Rattle.mb_segment.proofs.Base.{if◌then◌else◌, nat_eq}
 use Rattle.mb_segment.proofs.Spots.{all_length, below_by, nothing_left, same_some}
 use Rattle.mb_ring.specs.Vocabulary.{Below, Claim, Fits, Issuer, Keeps, Member, Role, SawAllGot, SawAllTaken, Sat, Spent, Spot, View}

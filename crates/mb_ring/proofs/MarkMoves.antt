@@ -1,12 +1,12 @@
 -- The store that marks a position keeps the rule.
-use Rattle.mb_ring.proofs.Base.{Allows, List, None, Option, Some, ap, arith, get_elem?, gives, homes_after, inl, inr, length, none, refl, rest}
+use Rattle.mb_ring.proofs.Base.{Allows, List, None, Option, Some, ap, arith, get_elem?, gives, homes_after, inl, inr, none, refl, rest}
 use Rattle.mb_ring.proofs.Base.{set_else, set_here, slice_set, some, some-injective, step, subst, suc, sym, ℕ, ℕ_discrete, ⊎_elim}
 use Rattle.mb_ring.proofs.Base.{◌%◌, ◌*◌, ◌+◌, ◌<◌, ◌∙◌, ◌∷◌, ◌≡◌, ◌≢◌, ◌≤◌, ◌⊎◌}
 use Rattle.std.proofs.lemmas.Nat.{mod_below}
 use Rattle.mb_segment.proofs.Spots.{all_length, below_length, size_set}
 use Rattle.mb_segment.proofs.Halves.{no_hub, no_spent, not_both, writes_one}
 use Rattle.mb_ring.specs.Vocabulary.{Entry, Half, HalfFits, Homes, IsTaken, Keeps, Member, Nothing, Reads, Sat, Spot, Taken, Undrawn}
-use Rattle.mb_ring.specs.Vocabulary.{View, Waiting, Waits, Writes, all_entries, drawn, ended, ending, spot, taken, turn}
+use Rattle.mb_ring.specs.Vocabulary.{View, Waiting, Waits, Writes, all_entries, drawn, ended, ending, spot, turn}
 use Rattle.mb_ring.proofs.Turns.{next_lap, one_slot, turn_else, turn_here}
 use Rattle.mb_ring.proofs.Halves.{half_else}
 use Rattle.mb_ring.proofs.Kept.{Next, St, moved, resized, steps}
@@ -101,13 +101,13 @@ module _ {T : Type 0} (s : St T) (k : Keeps s) (i : ℕ) (v w : View T) (at : ge
   mark_halves j Nothing apart f = tt
   mark_halves j (Writes r) apart f =
       let ne : r.at % k.size ≢ p.at % k.size = λ q. (
-        let h = (here r.at q).0 in
-        let l = f.2 in
-        let same_ : r.at ≡ p.at = omega arith in
-        apart (ap (λ (z : Entry T). z.by)
-            (some-injective record { by = j; value = r.value }
-            record { by = i; value = p.value }
-            (sym f.1 ∙ (ap (λ (m : ℕ). get_elem? (all_entries k.history) m) same_ ∙ writes.1))))
+      let h = (here r.at q).0 in
+      let l = f.2 in
+      let same_ : r.at ≡ p.at = omega arith in
+      apart (ap (λ (z : Entry T). z.by)
+      (some-injective record { by = j; value = r.value }
+      record { by = i; value = p.value }
+      (sym f.1 ∙ (ap (λ (m : ℕ). get_elem? (all_entries k.history) m) same_ ∙ writes.1))))
       ) in
       (f.0, f.1, else_ r.at ne ∙ f.2)
   mark_halves j (Reads r) apart f =

@@ -7,7 +7,7 @@ use Rattle.std.proofs.Math.Nat.{mod-eq_of_lt}
 use Rattle.mb_segment.proofs.Spots.{below_length, index_at, map_length, no_some, replicate_at, replicate_length, size_set, snoc_at}
 use Rattle.mb_segment.proofs.Halves.{either_over, empty_slots, hub_is_no_member, hub_is_not_spent, no_hub, spent_is_no_member}
 use Rattle.mb_ring.specs.Vocabulary.{Fits, Half, HasHalf, History, In, IsMember, Issuer, Keeps, Match, Member, Nothing, Reads, Role, Spent}
-use Rattle.mb_ring.specs.Vocabulary.{View, Writes, blank, drawn, if_hub, issued, member, new_hub, one_if_member, out, spent, spot, took_back, total, turn}
+use Rattle.mb_ring.specs.Vocabulary.{View, Writes, blank, if_hub, issued, member, new_hub, one_if_member, out, spent, spot, took_back, total, turn}
 use Rattle.mb_ring.proofs.Totals.{below_total, one_in_total, total_set, total_snoc}
 use Rattle.mb_ring.proofs.Halves.{half_stays}
 use Rattle.mb_ring.proofs.Kept.{St}

@@ -1,6 +1,6 @@
 -- Who drew, claimed or cut.
 use Rattle.mb_ring.proofs.Base.{Bool, List, Option, Some, [], ap, arith, eq-eqb, false, get_elem?, inl, inr, length, refl, some, some-injective}
-use Rattle.mb_ring.proofs.Base.{some-ne-none, subst, suc, sym, true, true≢false, zero, ℕ, ◌+◌, ◌<◌, ◌∙◌, ◌∷◌, ◌≡◌, ◌≤◌, ◌⊎◌, ⊎_elim}
+use Rattle.mb_ring.proofs.Base.{some-ne-none, subst, suc, sym, true, true≢false, zero, ℕ, ◌+◌, ◌∙◌, ◌∷◌, ◌≡◌, ◌≤◌, ◌⊎◌, ⊎_elim}
 use Rattle.mb_segment.proofs.Base.{if◌then◌else◌, nat_eq}
 use Rattle.mb_segment.proofs.Halves.{hub_is_not_spent, no_hub}
 use Rattle.mb_segment.proofs.Places.{claimed_at, drawn_at, some_cutter}

@@ -1,5 +1,5 @@
 -- The store that says that a position is read keeps the rule.
-use Rattle.mb_ring.proofs.Base.{Allows, List, None, Option, dec_le, dite, ap, arith, get_elem?, gives, homes_after, inl, inr, length, none, refl, rest}
+use Rattle.mb_ring.proofs.Base.{Allows, List, None, Option, dec_le, dite, ap, arith, get_elem?, gives, homes_after, inl, inr, none, refl, rest}
 use Rattle.mb_ring.proofs.Base.{set_else, set_here, slice_set, some, some-injective, step, subst, suc, sym, ℕ, ℕ_discrete, ⊎_elim}
 use Rattle.mb_ring.proofs.Base.{◌%◌, ◌*◌, ◌+◌, ◌<◌, ◌∙◌, ◌∷◌, ◌≡◌, ◌≢◌, ◌≤◌, ◌⊎◌}
 use Rattle.std.proofs.lemmas.Nat.{mod_below}
@@ -104,11 +104,11 @@ module _ {T : Type 0} (s : St T) (k : Keeps s) (i : ℕ) (v w : View T) (at : ge
   read_halves j (Reads r) apart f =
       let c : Claim T = record { entry = record { by = f.0.0; value = r.value }; to = j } in
       let ne : r.at % k.size ≢ p.at % k.size = λ q. (
-        let h = (here r.at q).0 in
-        let l = f.1 in
-        let same_ : r.at ≡ p.at = omega arith in
-        apart (ap (λ (z : Claim T). z.to) (some-injective c own_claim
-            (sym f.0.1 ∙ (ap (λ (m : ℕ). get_elem? k.history.claims m) same_ ∙ reads.0.1))))
+      let h = (here r.at q).0 in
+      let l = f.1 in
+      let same_ : r.at ≡ p.at = omega arith in
+      apart (ap (λ (z : Claim T). z.to) (some-injective c own_claim
+      (sym f.0.1 ∙ (ap (λ (m : ℕ). get_elem? k.history.claims m) same_ ∙ reads.0.1))))
       ) in
       (f.0, else_ r.at ne ∙ f.1)
 

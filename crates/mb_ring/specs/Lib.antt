@@ -10,5 +10,6 @@ pub mod Seats
 pub mod Answers
 pub mod Ending
 pub mod Vocabulary
+pub mod RingSamples
 -- the names that clauses use, also for the crates above
 pub use Vocabulary.*

@@ -1,5 +1,5 @@
 -- How a step changes a view.
-use Rattle.std.specs.Prelude.{List, None, Option, Some, [], false, max, suc, true, ℕ, ◌+◌, ◌++◌, ◌-◌, ◌<◌, ◌∷◌, ◌≡◌}
+use Rattle.std.specs.Prelude.{None, Some, [], false, max, suc, true, ℕ, ◌+◌, ◌++◌, ◌-◌, ◌<◌, ◌∷◌, ◌≡◌}
 use Rattle.mb_segment.specs.History.{spot}
 use Rattle.mb_segment.specs.Moves.{Below, mark_in, or}
 use Rattle.mb_ring.specs.Types.{Nothing, Reads, View, Writes}

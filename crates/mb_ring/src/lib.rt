@@ -29,6 +29,7 @@ mod left;
 mod receiving;
 mod ring;
 mod rule;
+pub mod samples;
 mod sending;
 #[cfg(test)]
 mod tests;

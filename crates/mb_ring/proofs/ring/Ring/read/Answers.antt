@@ -1,5 +1,5 @@
-use Rattle.std.proofs.Common.{[], ap, arith, sym, ℕ, ◌%◌, ◌+◌, ◌∙◌, ◌∷◌, ◌≡◌}
-use Rattle.std.specs.Prelude.{Option, Some}
+use Rattle.std.proofs.Common.{[], ap, arith, sym, ◌%◌, ◌+◌, ◌∙◌, ◌∷◌, ◌≡◌}
+use Rattle.std.specs.Prelude.{Some}
 use Rattle.atomic_table.specs.Table.{rest}
 use Rattle.mb_ring.specs.Vocabulary.{spot}
 use Rattle.mb_ring.proofs.ReadMoves.{reads_end}
