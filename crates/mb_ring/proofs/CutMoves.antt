@@ -8,7 +8,8 @@ use Rattle.mb_ring.proofs.Halves.{half_stays}
 use Rattle.mb_ring.proofs.Kept.{Next, Same, at0, exchanges, moved, now}
 
 module _ {T : Type 0} where
-  half_cut : (h : History T) (c : Option ℕ) (n : ℕ) (states : List ℕ) (j : ℕ) (half : Half T) → HalfFits h n states j half
+  half_cut : (h : History T) (c : Option ℕ) (n : ℕ) (states : List ℕ) (j : ℕ) (half : Half T)
+      → HalfFits h n states j half
       → HalfFits record h { cutter = c } n states j half
   half_cut h c n states j Nothing f = tt
   half_cut h c n states j (Writes p) f = f

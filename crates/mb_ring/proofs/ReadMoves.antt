@@ -124,7 +124,8 @@ module _ {T : Type 0} where
       → y + 2 * (p.at % slots) ≡ 2 * (p.at + slots) → me.0.role ≡ Member → me.0.half ≡ Reads p
       → me.1 ≡ (p.at % slots, None) ∷ rest me.1
       → Allows Keeps slots i me j (λ _. y) (λ _. ending (step slots j y 0 none) me y)
-  reads_end slots i me j y p is y_is role half held = steps slots i me j (λ _. y) (λ _. ending (step slots j y 0 none) me y)
+  reads_end slots i me j y p is y_is role half held =
+      steps slots i me j (λ _. y) (λ _. ending (step slots j y 0 none) me y)
       (λ s k₀ many at.
       let k = resized s k₀ slots many in
       let v = me.0 in

@@ -4,8 +4,8 @@ ghost use Rattle.std.specs.Prelude.{[], ◌∷◌, ◌≡◌};
 ghost use Rattle.mb_ring.specs.{IsCalm, IsCut, Keeps, SawAllGot, SawAllTaken, Stand, drawn_in, drew, turn};
 ghost use Rattle.mb_ring.specs.RingSamples.{boasting, overfull, reused, saw_empty, saw_full, sent, two_slots, unused};
 
-/// The rule. A new ring is admitted. Refused: one that is cut before a pass is issued, one with more values than slots, one
-/// whose slot is free again before its value was taken, and one with a send that did not happen.
+/// The rule. A new ring is admitted. Refused: one that is cut before a pass is issued, and one with more values than
+/// slots. Refused too: one whose slot is free again before its value was taken, and one with a send that did not happen.
 pub fn sample_states()
     ensures new { Keeps (unused 0) }
     ensures cut { Keeps (unused 9223372036854775808) → ⊥ }
