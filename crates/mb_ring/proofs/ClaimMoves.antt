@@ -1,11 +1,11 @@
 -- The exchange that claims a position keeps the rule.
 use Rattle.mb_ring.proofs.Base.{Allows, List, Some, [], ap, append_assoc, arith, at_last, at_longer, either, get_elem?, inl, inr, length}
 use Rattle.mb_ring.proofs.Base.{length-append, none, refl, set_else, slice_index, slice_set, some, step, subst, suc, sym, takes, ℕ, ⊎_elim}
-use Rattle.mb_ring.proofs.Base.{◌%◌, ◌*◌, ◌++◌, ◌+◌, ◌<◌, ◌==◌, ◌∙◌, ◌∷◌, ◌≡◌, ◌≢◌}
+use Rattle.mb_ring.proofs.Base.{◌%◌, ◌*◌, ◌++◌, ◌+◌, ◌<◌, ◌==◌, ◌∙◌, ◌∷◌, ◌≡◌, ◌≢◌, ◌≤◌}
 use Rattle.mb_segment.proofs.Spots.{entries_append, entry_of, size_set, snoc_at, to_other, to_own}
 use Rattle.mb_segment.proofs.Halves.{match_kept, no_hub, no_reads, no_spent, no_writes}
-use Rattle.mb_ring.specs.Vocabulary.{Claim, Entry, Half, HalfFits, HasHalf, History, Homes, In, Keeps, Member, Nothing, Reads, Sat, Taken}
-use Rattle.mb_ring.specs.Vocabulary.{Undrawn, View, Waiting, Writes, all_entries, claiming, drawn, entries, got_by}
+use Rattle.mb_ring.specs.Vocabulary.{Claim, Duty, Entry, Half, HalfFits, HasHalf, History, Homes, In, Keeps, Member, Nothing, Reads, Sat, Taken}
+use Rattle.mb_ring.specs.Vocabulary.{Undrawn, View, Waiting, Writes, all_entries, claiming, done, drawn, looked, with_duty, entries, got_by}
 use Rattle.mb_ring.specs.Vocabulary.{spot, spots_by, taken, took, turn}
 use Rattle.mb_ring.proofs.Turns.{other_slot}
 use Rattle.mb_ring.proofs.Halves.{half_else, half_here, heard_claim, may_take}
@@ -122,14 +122,21 @@ module _ {T : Type 0} (s : St T) (k : Keeps s) (i : ℕ) (v w : View T) (at : ge
   claim_got : got_by i claimed ≡ got_by i k.history ++ spot old b.value ∷ []
   claim_got = to_own i 0 b.value k.history.claims claim old (omega arith) refl refl
 
+-- what a claim does to what its pass owes: at most one look less
+abbrev IsLook : (Duty → Duty) → Duty → Type 0
+IsLook f d = ((f d).fresh + (f d).asleep + (f d).leaving ≡ d.fresh + d.asleep + d.leaving)
+    × ((f d).asleep ≡ d.asleep)
+    × (d.wakes + d.looks + d.fresh + d.closing ≤ (f d).wakes + (f d).looks + (f d).fresh + (f d).closing + 1)
+    × ((f d).closing ≡ d.closing)
+
 module _ {T : Type 0} where
-  first_of : (slots i : ℕ) (me : Sat T) (old new : ℕ) → me.0.role ≡ Member
+  first_of : (f : Duty → Duty) (slots i : ℕ) (me : Sat T) (old new : ℕ) → IsLook f me.0.duty → me.0.role ≡ Member
       → me.0.half ≡ Nothing → me.0.sight.ripe ≡ Some old → new ≡ old + 1
       → (s : St T) (k₀ : Keeps s) → k₀.size ≡ slots → get_elem? s.views i ≡ some me.0
       → slice_index s.words 1 ≡ old
       → (rest' : List (Entry T)) → k₀.history.rest ≡ rest'
-      → Goes s 1 i me (claiming (step slots 1 old new none) me) new
-  first_of slots i me old new role idle ripe is s k₀ many at e [] none_there =
+      → Goes s 1 i me (claiming f (step slots 1 old new none) me) new
+  first_of f slots i me old new look role idle ripe is s k₀ many at e [] none_there =
       let k = resized s k₀ slots many in
       let r = ((k.fits i me.0 at).sight.ripe old ripe).1 in
       let some_ = k.sized.2 in
@@ -137,10 +144,10 @@ module _ {T : Type 0} where
       let z : length k.history.rest ≡ 0 = ap length none_there in
       ⊎_elim (λ z. let l = z.0 in absurd (omega arith)) (λ z. let l = z.1 in absurd (omega arith))
       (k.undrawn old (omega arith) (omega arith))
-  first_of slots i me old new role idle ripe is s k₀ many at e (b ∷ bs) first =
+  first_of f slots i me old new look role idle ripe is s k₀ many at e (b ∷ bs) first =
       let k = resized s k₀ slots many in
       let v = me.0 in
-      let w = took old b.value v in
+      let w = with_duty f (took old b.value v) in
       let fit = k.fits i v at in
       let mem = fit.member role in
       let r = (fit.sight.ripe old ripe).1 in
@@ -163,6 +170,8 @@ module _ {T : Type 0} where
         words = slice_set s.words 1 new;
         states = k.states;
         homes = slice_set s.homes (old % slots) none;
+        tokens = k.tokens;
+        waiting = k.waiting;
         cut = k.cut;
       } in (
         w,
@@ -170,7 +179,14 @@ module _ {T : Type 0} where
         home.1,
         moved s k i v w x' at record {
           words = ap (λ l. slice_set l 1 new) k.words
-              ∙ (λ z. (sym sd z + 9223372036854775808 * k.cut) ∷ next z ∷ k.states);
+              ∙ (λ z. (sym sd z + 9223372036854775808 * k.cut) ∷ next z ∷
+              (k.tokens + 4294967296 * k.waiting) ∷ k.states);
+          narrow = k.narrow;
+          counted = let l = look.0 in omega arith;
+          laws = λ L O C L' O' C' l o c le' q h. let lk = look.2 in let lc = look.3 in let la = look.1 in (
+            ⊎_elim (λ y. inl (omega arith)) (λ y. inr (omega arith)) q,
+            ⊎_elim (λ y. inl (omega arith)) (λ y. inr (omega arith)) h,
+          );
           sized = (k.sized.0, lent_ ∙ k.sized.1);
           small = omega arith;
           within = omega arith;
@@ -201,6 +217,7 @@ module _ {T : Type 0} where
             };
             hub_ = λ q. absurd (no_hub v.role role q);
             back = λ q. absurd (no_spent v.role role q);
+            debt = λ no_. absurd (no_ role);
             half = ((b.by, here s k i v w at old now_ r idle b bs first refl), home.0);
             sight = let f = fit.sight in record {
               low = let l = f.low in omega arith;
@@ -219,10 +236,22 @@ module _ {T : Type 0} where
         ((λ _. (b.value, refl, refl, may)), λ ne. absurd (ne e)),
       )
 
+  claims_as : (f : Duty → Duty) (slots i : ℕ) (me : Sat T) (old new : ℕ) → IsLook f me.0.duty → me.0.role ≡ Member
+      → me.0.half ≡ Nothing → me.0.sight.ripe ≡ Some old → new ≡ old + 1
+      → Allows Keeps slots i me 1 (λ r. either (r == old) new r) (claiming f (step slots 1 old new none) me)
+  claims_as f slots i me old new look role idle ripe is =
+      exchanges 1 (claiming f (step slots 1 old new none) me) slots i me old new
+      (λ s k many at e. first_of f slots i me old new look role idle ripe is s k many at e k.history.rest refl)
+      (λ r ne. ((λ e. absurd (ne e)), λ _. (refl, refl)))
+
   pub claims : (slots i : ℕ) (me : Sat T) (old new : ℕ) → me.0.role ≡ Member → me.0.half ≡ Nothing
       → me.0.sight.ripe ≡ Some old → new ≡ old + 1
-      → Allows Keeps slots i me 1 (λ r. either (r == old) new r) (claiming (step slots 1 old new none) me)
+      → Allows Keeps slots i me 1 (λ r. either (r == old) new r) (claiming looked (step slots 1 old new none) me)
   claims slots i me old new role idle ripe is =
-      exchanges 1 (claiming (step slots 1 old new none) me) slots i me old new
-      (λ s k many at e. first_of slots i me old new role idle ripe is s k many at e k.history.rest refl)
-      (λ r ne. ((λ e. absurd (ne e)), λ _. (refl, refl)))
+      claims_as looked slots i me old new (refl, refl, omega arith, refl) role idle ripe is
+
+  pub claims_listed : (slots i : ℕ) (me : Sat T) (old new : ℕ) → 0 < me.0.duty.fresh → me.0.role ≡ Member
+      → me.0.half ≡ Nothing → me.0.sight.ripe ≡ Some old → new ≡ old + 1
+      → Allows Keeps slots i me 1 (λ r. either (r == old) new r) (claiming done (step slots 1 old new none) me)
+  claims_listed slots i me old new fresh role idle ripe is =
+      claims_as done slots i me old new (omega arith, refl, omega arith, refl) role idle ripe is

@@ -1,9 +1,9 @@
 -- The exchange that cuts the ring keeps the rule.
 use Rattle.mb_ring.proofs.Base.{Allows, List, Option, Some, ap, arith, eq-eqb, either, inl, inr, keeps, ne_eqb, none, refl}
-use Rattle.mb_ring.proofs.Base.{slice_set, step, subst, sym, ℕ, ⊎_elim, ◌+◌, ◌<◌, ◌==◌, ◌∙◌, ◌∷◌, ◌≡◌}
+use Rattle.mb_ring.proofs.Base.{slice_set, step, subst, sym, ℕ, ⊎_elim, ◌*◌, ◌+◌, ◌<◌, ◌==◌, ◌∙◌, ◌∷◌, ◌≡◌}
 use Rattle.mb_segment.proofs.Halves.{match_kept, no_hub, no_spent, uncut}
 use Rattle.mb_ring.specs.Vocabulary.{Half, HalfFits, History, In, Keeps, Member, Nothing, Reads, Sat, Writes, did_cut}
-use Rattle.mb_ring.specs.Vocabulary.{exchanging, spot, taken}
+use Rattle.mb_ring.specs.Vocabulary.{exchanging, owes_all, spot, taken, with_duty}
 use Rattle.mb_ring.proofs.Halves.{half_stays}
 use Rattle.mb_ring.proofs.Kept.{Next, Same, at0, exchanges, moved, now}
 
@@ -17,12 +17,13 @@ module _ {T : Type 0} where
 
   pub cuts : (slots i : ℕ) (me : Sat T) (old new : ℕ) → old < 9223372036854775808 → me.0.role ≡ Member
       → new ≡ old + 9223372036854775808
-      → Allows Keeps slots i me 0 (λ r. either (r == old) new r) (exchanging did_cut (step slots 0 old new none) me)
+      → Allows Keeps slots i me 0 (λ r. either (r == old) new r)
+      (exchanging (λ v. with_duty owes_all (did_cut v)) (step slots 0 old new none) me)
   cuts slots i me old new open_ role is =
-      exchanges 0 (exchanging did_cut (step slots 0 old new none) me) slots i me old new
+      exchanges 0 (exchanging (λ v. with_duty owes_all (did_cut v)) (step slots 0 old new none) me) slots i me old new
       (λ s k many at e.
       let v = me.0 in
-      let w = did_cut v in
+      let w = with_duty owes_all (did_cut v) in
       let h = k.history in
       let fit = k.fits i v at in
       let mem = fit.member role in
@@ -36,7 +37,14 @@ module _ {T : Type 0} where
         keeps,
         tt,
         moved s k i v w x' at record {
-          words = ap (λ l. slice_set l 0 new) k.words ∙ ap (λ r. r ∷ taken h ∷ k.states) (omega arith);
+          words = ap (λ l. slice_set l 0 new) k.words ∙ ap
+              (λ r. r ∷ taken h ∷ (k.tokens + 4294967296 * k.waiting) ∷ k.states) (omega arith);
+          narrow = k.narrow;
+          counted = omega arith;
+          laws = λ L O C L' O' C' l o c le q h'. (
+            ⊎_elim (λ y. inl (omega arith)) (λ y. inr (omega arith)) q,
+            inr (omega arith),
+          );
           sized = (k.sized.0, k.sized.1);
           small = k.small;
           within = k.within;
@@ -70,6 +78,7 @@ module _ {T : Type 0} where
             };
             hub_ = λ r. absurd (no_hub v.role role r);
             back = λ r. absurd (no_spent v.role role r);
+            debt = λ no_. absurd (no_ role);
             half = half_cut h (Some i) k.size k.states i v.half fit.half;
             sight = let f = fit.sight in record {
               low = f.low;

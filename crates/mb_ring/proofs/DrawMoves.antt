@@ -6,7 +6,7 @@ use Rattle.mb_segment.proofs.Spots.{all_length, at_below, below_length, by_other
 use Rattle.mb_segment.proofs.Halves.{match_kept, no_hub, no_reads, no_spent, no_writes}
 use Rattle.mb_ring.specs.Vocabulary.{Entry, Half, HalfFits, HasHalf, History, Homes, In, Keeps, Member, Nothing, Reads, Sat, Taken}
 use Rattle.mb_ring.specs.Vocabulary.{Undrawn, View, Waiting, Writes, all_entries, drawing, drawing_picked, drawn, drew}
-use Rattle.mb_ring.specs.Vocabulary.{entries, sent_by, spot, spots_by, taken, turn}
+use Rattle.mb_ring.specs.Vocabulary.{entries, owes_wake, sent_by, spot, spots_by, taken, turn, with_duty}
 use Rattle.mb_ring.proofs.Turns.{lap_on, one_slot, other_slot}
 use Rattle.mb_ring.proofs.Halves.{half_else, half_here, heard_draw, may_send}
 use Rattle.mb_ring.proofs.Kept.{Next, Same, St, at0, exchanges, moved, resized}
@@ -143,7 +143,7 @@ module _ {T : Type 0} where
       (λ s k₀ many at e.
       let k = resized s k₀ slots many in
       let v = me.0 in
-      let w = drew old x v in
+      let w = with_duty owes_wake (drew old x v) in
       let h = k.history in
       let fit = k.fits i v at in
       let mem = fit.member role in
@@ -163,13 +163,22 @@ module _ {T : Type 0} where
         words = slice_set s.words 0 new;
         states = k.states;
         homes = slice_set s.homes (old % slots) none;
+        tokens = k.tokens;
+        waiting = k.waiting;
         cut = k.cut;
       } in (
         w,
         takes (old % slots) None,
         (free s k i v at x old now_ free_ idle w refl).1,
         moved s k i v w x' at record {
-          words = ap (λ l. slice_set l 0 new) k.words ∙ ap (λ r. r ∷ taken h ∷ k.states) next;
+          words = ap (λ l. slice_set l 0 new) k.words ∙ ap
+              (λ r. r ∷ taken h ∷ (k.tokens + 4294967296 * k.waiting) ∷ k.states) next;
+          narrow = k.narrow;
+          counted = omega arith;
+          laws = λ L O C L' O' C' l o c le q h'. (
+            ⊎_elim (λ y. inl (omega arith)) (λ y. inr (omega arith)) q,
+            ⊎_elim (λ y. inl (omega arith)) (λ y. inr (omega arith)) h',
+          );
           sized = (k.sized.0, lent_ ∙ k.sized.1);
           small = omega arith;
           within = omega arith;
@@ -200,6 +209,7 @@ module _ {T : Type 0} where
             };
             hub_ = λ r. absurd (no_hub v.role role r);
             back = λ r. absurd (no_spent v.role role r);
+            debt = λ no_. absurd (no_ role);
             half = draw_own s k i v at x old now_ free_ idle w refl;
             sight = let f = fit.sight in record {
               low = f.low;

@@ -1,9 +1,10 @@
 -- What passes have begun, and what they were told and had learned.
-use Rattle.mb_ring.proofs.Base.{List, [], ap, arith, get_elem?, length, set_else, set_here, slice_set, some, some-injective, subst}
-use Rattle.mb_ring.proofs.Base.{sym, ℕ, ℕ_discrete, ◌++◌, ◌<◌, ◌∙◌, ◌∷◌, ◌≡◌, ◌≤◌}
+use Rattle.mb_ring.proofs.Base.{List, [], ap, arith, get_elem?, length, refl, set_else, set_here, slice_set, some, some-injective, subst}
+use Rattle.mb_ring.proofs.Base.{sym, ℕ, ℕ_discrete, ◌++◌, ◌+◌, ◌<◌, ◌∙◌, ◌∷◌, ◌≡◌, ◌≤◌}
 use Rattle.mb_segment.proofs.Spots.{below_length}
-use Rattle.mb_segment.proofs.Halves.{not_true, uncut}
-use Rattle.mb_ring.specs.Vocabulary.{Fits, Half, HasHalf, Heard, Heeds, History, MaySend, MayTake, Member, Spot, View, cuts_by}
+use Rattle.mb_segment.proofs.Halves.{no_hub, no_spent, not_true, uncut}
+use Rattle.mb_ring.specs.Vocabulary.{Duty, Fits, Half, HasHalf, Heard, Heeds, History, MaySend, MayTake, Member, Spot, View, cuts_by}
+use Rattle.mb_ring.specs.Vocabulary.{Issuer, Role, Spent, listed, no_duty, owed}
 use Rattle.mb_ring.specs.Vocabulary.{drawn, drew, spot, taken, took}
 
 module _ {T : Type 0} where
@@ -55,6 +56,20 @@ module _ {T : Type 0} where
       → Fits h m states cut hub roll n v → 0 < length h.rest → MayTake v
   may_take h m states cut hub roll n v f some_ = not_true v.over
       (λ on. let y : length h.rest ≡ 0 = ap length (f.over on).1 in absurd (omega arith))
+
+  -- who owes something, or is in the list, is a pass that is out
+  pub is_out : (v : View T) → ((v.role ≡ Member → ⊥) → v.duty ≡ no_duty) → 0 < owed v + listed v → v.role ≡ Member
+  is_out v debt some_ = go v.role refl
+    where
+      nothing : (v.role ≡ Member → ⊥) → ⊥
+      nothing no_ =
+          let a : owed v ≡ 0 = ap (λ (d : Duty). d.wakes + d.looks + d.fresh + d.closing) (debt no_) in
+          let b : listed v ≡ 0 = ap (λ (d : Duty). d.fresh + d.asleep + d.leaving) (debt no_) in omega arith
+
+      go : (r : Role) → v.role ≡ r → v.role ≡ Member
+      go Issuer e = absurd (nothing (λ m. no_hub v.role m e))
+      go Member e = e
+      go Spent e = absurd (nothing (λ m. no_spent v.role m e))
 
   -- one call more, at position p, by a pass that knew of k before
   heeds_more : (p : ℕ) (x : T) (k : ℕ) (ss : List (Spot T)) (ks : List ℕ) → k ≤ p → Heeds ss ks

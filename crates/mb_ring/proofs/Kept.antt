@@ -3,10 +3,11 @@ use Rattle.mb_ring.proofs.Base.{Act, Allows, List, Option, State, Valid, [], ap,
 use Rattle.mb_ring.proofs.Base.{either, exchanged, false, get_elem?, inl, inr, keeps, length, refl, set_again, slice_index, slice_set}
 use Rattle.mb_ring.proofs.Base.{some, stepped, subst, sym, ℕ, ⊎_elim, ◌*◌, ◌+◌, ◌<◌, ◌==◌, ◌∙◌, ◌∷◌, ◌≡◌, ◌≢◌, ◌≤◌}
 use Rattle.mb_segment.proofs.Spots.{below_length, size_set}
-use Rattle.mb_ring.specs.Vocabulary.{Account, Fits, Half, HalfFits, History, Homes, Keeps, Match, Reads, Sat, Sight, SightFits, Taken}
+use Rattle.mb_ring.specs.Vocabulary.{Account, Duty, Fits, Half, HalfFits, History, Homes, Keeps, Match, Reads, Sat, Sight, SightFits, Taken}
 use Rattle.mb_ring.specs.Vocabulary.{Undrawn, View, Waiting, Writes, cuts_by, drawn, got_by, has_cut, if_hub, member}
 use Rattle.mb_ring.specs.Vocabulary.{one_if_member, out, sent_by, spot, taken, turn}
-use Rattle.mb_ring.proofs.Totals.{total_set}
+use Rattle.mb_ring.specs.Vocabulary.{Member, Quiet, Shut, closing, free, listed, no_duty, owed, sleeping, total}
+use Rattle.mb_ring.proofs.Totals.{asleep_listed, total_set}
 use Rattle.mb_ring.proofs.Halves.{half_stays}
 use lib.Seq.{set-get_or}
 
@@ -19,6 +20,8 @@ pub record Next (T : Type 0) : Type 0 where
   pub words : List ℕ
   pub states : List ℕ
   pub homes : Homes T
+  pub tokens : ℕ
+  pub waiting : ℕ
   pub cut : ℕ
 
 module _ {T : Type 0} where
@@ -27,13 +30,38 @@ module _ {T : Type 0} where
   Same h g i = (j : ℕ) → j ≢ i → (sent_by j g ≡ sent_by j h) × (got_by j g ≡ got_by j h) × (has_cut j g ≡ has_cut j h)
 
   abbrev pub now : (s : St T) → Keeps s → Next T
-  now s k = record { history = k.history; words = s.words; states = k.states; homes = s.homes; cut = k.cut }
+  now s k = record {
+    history = k.history;
+    words = s.words;
+    states = k.states;
+    homes = s.homes;
+    tokens = k.tokens;
+    waiting = k.waiting;
+    cut = k.cut;
+  }
 
   abbrev pub after : St T → Next T → ℕ → View T → St T
   after s x i w = record { words = x.words; homes = x.homes; views = slice_set s.views i w }
 
+  -- what the step does to the sums of all views keeps the laws of sleep. L sleep, O is owed, C by closers
+  abbrev pub Laws : (s : St T) → Keeps s → View T → View T → Next T → Type 0
+  Laws s k v w x =
+      (L O C L' O' C' : ℕ) → L' + v.duty.asleep ≡ L + w.duty.asleep → O' + owed v ≡ O + owed w
+      → C' + v.duty.closing ≡ C + w.duty.closing → L' ≤ x.tokens + x.waiting
+      → Quiet (length k.history.rest) k.tokens L O → Shut k.tokens L (free k.cut 1) C
+      → Quiet (length x.history.rest) x.tokens L' O' × Shut x.tokens L' (free x.cut 1) C'
+
+  -- nothing is owed or paid
+  abbrev pub AtRest : (s : St T) → Keeps s → View T → View T → Next T → Type 0
+  AtRest s k v w x = (w.duty ≡ v.duty) × (x.tokens ≡ k.tokens) × (x.waiting ≡ k.waiting)
+      × (length x.history.rest ≤ length k.history.rest) × (x.cut ≡ k.cut)
+
   pub record Keeping (s : St T) (k : Keeps s) (i : ℕ) (v w : View T) (x : Next T) : Type 0 where
-    pub words : x.words ≡ (drawn x.history + 9223372036854775808 * x.cut) ∷ taken x.history ∷ x.states
+    pub words : x.words ≡ (drawn x.history + 9223372036854775808 * x.cut) ∷ taken x.history
+        ∷ (x.tokens + 4294967296 * x.waiting) ∷ x.states
+    pub narrow : x.tokens < 4294967296
+    pub counted : listed w + (k.tokens + k.waiting) ≡ listed v + (x.tokens + x.waiting)
+    pub laws : Laws s k v w x
     pub sized : (length x.states ≡ k.size) × (length x.homes ≡ k.size)
     pub small : drawn x.history ≤ 4611686018427387904
     pub within : drawn x.history ≤ taken x.history + k.size
@@ -83,6 +111,7 @@ module _ {T : Type 0} where
     hub_ = λ r. let m = f.hub_ r in
         record { here = m.here; ends = o.roll u.ends m.ends; nothing = m.nothing; idle = m.idle };
     back = f.back;
+    debt = f.debt;
     half = o.halves j u.half apart f.half;
     sight = sight_kept s k i v w x o u.sight f.sight;
     heard = let a = f.heard.0 in let b = f.heard.1 in let d = o.drawn_ in let m = o.more in
@@ -95,12 +124,29 @@ module _ {T : Type 0} where
   moved s k i v w x at o =
       let many = size_set s.views i w in
       let here = below_length s.views i v at in
+      let views' = slice_set s.views i w in
+      let l = total_set listed s.views i v w at in
+      let c₀ = k.counted in
+      let c₁ = o.counted in
+      let counted' : total listed views' ≡ x.tokens + x.waiting = omega arith in
+      let under = asleep_listed views' in
+      let laws' = o.laws (total sleeping s.views) (total owed s.views) (total closing s.views)
+      (total sleeping views') (total owed views') (total closing views')
+      (total_set sleeping s.views i v w at) (total_set owed s.views i v w at)
+      (total_set closing s.views i v w at)
+      (omega arith) k.quiet k.shut in
       record {
         history = x.history;
         states = x.states;
         size = k.size;
+        tokens = x.tokens;
+        waiting = x.waiting;
         cut = x.cut;
         words = o.words;
+        narrow = o.narrow;
+        counted = counted';
+        quiet = laws'.0;
+        shut = laws'.1;
         sized = (o.sized.0, o.sized.1, k.sized.2);
         small = o.small;
         cutter = o.cutter;
@@ -132,13 +178,28 @@ module _ {T : Type 0} where
             (at_set s.views i j w u e);
       }
 
-  -- the same where no word and no slot changes, and nothing is begun or ended
-  pub settled : (s : St T) (k : Keeps s) (i : ℕ) (v w : View T) → get_elem? s.views i ≡ some v
-      → w.role ≡ v.role → w.out ≡ v.out → w.half ≡ v.half
-      → Fits k.history k.size k.states k.cut k.hub k.roll i w
-      → Keeps record { words = s.words; homes = s.homes; views = slice_set s.views i w }
-  settled s k i v w at ro ou ha own = moved s k i v w (now s k) at record {
-    words = k.words;
+  -- the same where no position, no slot and no cut changes, and nothing is begun or ended
+  abbrev pub still : (s : St T) → Keeps s → Next T → Next T
+  still s k x = record x { history = k.history; states = k.states; homes = s.homes; cut = k.cut }
+
+  pub record Steady (s : St T) (k : Keeps s) (i : ℕ) (v w : View T) (x : Next T) : Type 0 where
+    pub words : x.words ≡ (drawn k.history + 9223372036854775808 * k.cut) ∷ taken k.history
+        ∷ (x.tokens + 4294967296 * x.waiting) ∷ k.states
+    pub narrow : x.tokens < 4294967296
+    pub counted : listed w + (k.tokens + k.waiting) ≡ listed v + (x.tokens + x.waiting)
+    pub role : w.role ≡ v.role
+    pub out_ : w.out ≡ v.out
+    pub half : w.half ≡ v.half
+    pub own : Fits k.history k.size k.states k.cut k.hub k.roll i w
+    pub laws : Laws s k v w (still s k x)
+
+  pub steady : (s : St T) (k : Keeps s) (i : ℕ) (v w : View T) (x : Next T) → get_elem? s.views i ≡ some v
+      → Steady s k i v w x → Keeps (after s (still s k x) i w)
+  steady s k i v w x at o = moved s k i v w (still s k x) at record {
+    words = o.words;
+    narrow = o.narrow;
+    counted = o.counted;
+    laws = o.laws;
     sized = (k.sized.0, k.sized.1);
     small = k.small;
     within = k.within;
@@ -149,19 +210,68 @@ module _ {T : Type 0} where
     turns = λ j. omega arith;
     undrawn = k.undrawn;
     waits = λ j e le e_at. ⊎_elim
-        (λ z. inl (z.0, half_stays s.views i v w at ha e.by (Writes (spot j e.value)) z.1)) (λ z. inr z)
+        (λ z. inl (z.0, half_stays s.views i v w at o.half e.by (Writes (spot j e.value)) z.1)) (λ z. inr z)
         (k.waits j e le e_at);
     taken_ = λ j c c_at. ⊎_elim
-        (λ z. inl (z.0, half_stays s.views i v w at ha c.to (Reads (spot j c.entry.value)) z.1)) (λ z. inr z)
+        (λ z. inl (z.0, half_stays s.views i v w at o.half c.to (Reads (spot j c.entry.value)) z.1)) (λ z. inr z)
         (k.taken_ j c c_at);
     over = λ c e. e;
-    role = ro;
-    out_ = ou;
+    role = o.role;
+    out_ = o.out_;
     same = λ j ne. (refl, refl, refl);
     idle = k.idle;
     roll = λ as_ m. m;
     halves = λ j half ne f. f;
+    own = o.own;
+  }
+
+  -- the same where no word changes
+  pub settled : (s : St T) (k : Keeps s) (i : ℕ) (v w : View T) → get_elem? s.views i ≡ some v
+      → listed w ≡ listed v → w.role ≡ v.role → w.out ≡ v.out → w.half ≡ v.half
+      → Fits k.history k.size k.states k.cut k.hub k.roll i w → Laws s k v w (now s k)
+      → Keeps record { words = s.words; homes = s.homes; views = slice_set s.views i w }
+  settled s k i v w at li ro ou ha own laws = steady s k i v w (now s k) at record {
+    words = k.words;
+    narrow = k.narrow;
+    counted = omega arith;
+    role = ro;
+    out_ = ou;
+    half = ha;
     own = own;
+    laws = laws;
+  }
+
+  -- nothing owed or paid: the laws of sleep still hold
+  pub at_rest : (s : St T) (k : Keeps s) (v w : View T) (x : Next T) → AtRest s k v w x → Laws s k v w x
+  at_rest s k v w x r L O C L' O' C' l o c le q h =
+      let e₀ = ap (λ (d : Duty). d.asleep) r.0 in
+      let e₁ = ap (λ (d : Duty). d.wakes + d.looks + d.fresh + d.closing) r.0 in
+      let e₂ = ap (λ (d : Duty). d.closing) r.0 in
+      let t = r.1 in
+      let a = r.2 in
+      let m = r.3 in
+      let z : free x.cut 1 ≡ free k.cut 1 = ap (λ (n : ℕ). free n 1) r.4 in (
+        ⊎_elim (λ y. inl (omega arith)) (λ y. inr (omega arith)) q,
+        ⊎_elim (λ y. inl (omega arith)) (λ y. inr (omega arith)) h,
+      )
+
+  -- ---- a view that differs in what it owes alone. Only a pass owes anything
+  abbrev pub StaysIdle : View T → Duty → Type 0
+  StaysIdle v d = (v.role ≡ Member → ⊥) → v.duty ≡ no_duty → d ≡ no_duty
+
+  pub refit : (h : History T) (n : ℕ) (states : List ℕ) (cut hub : ℕ) (roll : List ℕ) (i : ℕ) (v : View T) (d : Duty)
+      → StaysIdle v d → Fits h n states cut hub roll i v → Fits h n states cut hub roll i record v { duty = d }
+  refit h n states cut hub roll i v d idle f = record {
+    member = λ r. let m = f.member r in
+        record { sent = m.sent; got = m.got; cut = m.cut; no_hub = m.no_hub; not_back = m.not_back };
+    hub_ = λ r. let m = f.hub_ r in
+        record { here = m.here; ends = m.ends; nothing = m.nothing; idle = m.idle };
+    back = f.back;
+    debt = λ no_. idle no_ (f.debt no_);
+    half = f.half;
+    sight = f.sight;
+    heard = f.heard;
+    over = f.over;
   }
 
   -- a view that saw something more
@@ -174,6 +284,7 @@ module _ {T : Type 0} where
     hub_ = λ r. let m = f.hub_ r in
         record { here = m.here; ends = m.ends; nothing = m.nothing; idle = m.idle };
     back = f.back;
+    debt = f.debt;
     half = f.half;
     sight = y;
     heard = f.heard;
@@ -192,7 +303,8 @@ module _ {T : Type 0} where
       → (c : List (ℕ × Option T)) (x : Sight) → SightFits k.history k.size k.states k.cut x
       → Keeps (stepped s j (slice_index s.words j) i c record v { sight = x } keeps)
   sees s k j i v at c x y = loaded s j i c record v { sight = x } (settled s k i v record v { sight = x } at refl refl
-      refl (sighted k.history k.size k.states k.cut k.hub k.roll i v x (k.fits i v at) y))
+      refl refl (sighted k.history k.size k.states k.cut k.hub k.roll i v x (k.fits i v at) y)
+      (at_rest s k v record v { sight = x } (now s k) (refl, refl, refl, omega arith, refl)))
 
   pub stays : (s : St T) (k : Keeps s) (j i : ℕ) (v : View T) → get_elem? s.views i ≡ some v
       → (c : List (ℕ × Option T))
@@ -212,8 +324,14 @@ module _ {T : Type 0} where
     history = k.history;
     states = k.states;
     size = n;
+    tokens = k.tokens;
+    waiting = k.waiting;
     cut = k.cut;
     words = k.words;
+    narrow = k.narrow;
+    counted = k.counted;
+    quiet = k.quiet;
+    shut = k.shut;
     sized = subst (λ m. (length k.states ≡ m) × (length s.homes ≡ m) × (0 < m)) q k.sized;
     small = k.small;
     cutter = k.cutter;
@@ -256,3 +374,6 @@ module _ {T : Type 0} where
 
   pub at1 : (s : St T) (k : Keeps s) → slice_index s.words 1 ≡ taken k.history
   at1 s k = ap (λ l. slice_index l 1) k.words
+
+  pub at2 : (s : St T) (k : Keeps s) → slice_index s.words 2 ≡ k.tokens + 4294967296 * k.waiting
+  at2 s k = ap (λ l. slice_index l 2) k.words

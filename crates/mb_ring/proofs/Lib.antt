@@ -10,6 +10,7 @@ pub mod ClaimMoves
 pub mod ReadMoves
 pub mod LookMoves
 pub mod CutMoves
+pub mod ListMoves
 pub mod PassMoves
 pub mod Places
 pub mod Endings

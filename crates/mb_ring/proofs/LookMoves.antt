@@ -1,12 +1,22 @@
 -- The loads keep the rule: of the number drawn and claimed, and of the words of slots.
-use Rattle.mb_ring.proofs.Base.{Allows, Bool, List, None, Option, Some, [], ap, arith, false, true, dec_le, dec_lt, dite, get_elem?, keeps, length, none, refl}
+use Rattle.mb_ring.proofs.Base.{Allows, Bool, List, None, Option, Some, [], ap, arith, false, true, dec_le, dec_lt, dite, get_elem?, inl, inr, keeps, length, none, refl}
 use Rattle.mb_ring.proofs.Base.{slice_index, some, step, subst, suc, sym, ℕ, ⊎_elim, ◌%◌, ◌*◌, ◌+◌, ◌<◌, ◌∷◌, ◌≡◌, ◌≤◌}
 use Rattle.mb_segment.proofs.Base.{if◌then◌else◌, nat_eq}
 use Rattle.mb_segment.proofs.Spots.{all_length, below_by, nothing_left, same_some}
 use Rattle.mb_ring.specs.Vocabulary.{Below, Claim, Fits, Issuer, Keeps, Member, Role, SawAllGot, SawAllTaken, Sat, Spent, Spot, View}
 use Rattle.mb_ring.specs.Vocabulary.{all_entries, asking, counting, drawn, looking, mark_in, seeing_cut, seeing_mark, seeing_room}
 use Rattle.mb_ring.specs.Vocabulary.{seeing_taken, sees_cut, sees_drawn, sees_empty, sees_full, sees_mark, sees_room, sees_taken, spot, spots_to, taken, told, turn}
-use Rattle.mb_ring.proofs.Kept.{Goes, St, at0, at1, loaded, resized, sees, settled, stays, steps}
+use Rattle.mb_ring.proofs.Kept.{Goes, St, StaysIdle, at0, at1, loaded, refit, resized, sees, settled, sighted, stays, steps}
+use Rattle.mb_ring.specs.Vocabulary.{Duty, done, falls_asleep, free, listed, looked, no_duty, with_duty}
+
+-- who owes something, or is in the list, is a pass
+pub owing : {T : Type 0} (x : Duty → ℕ) (v : View T) (d : Duty) → x no_duty ≡ 0 → 0 < x v.duty → StaysIdle v d
+owing x v d none_ some_ no_ e = let q : x v.duty ≡ x no_duty = ap x e in absurd (omega arith)
+
+-- the pass owes other things, and is in the list as often as before
+abbrev StaysListed : {T : Type 0} → (Duty → Duty) → View T → Type 0
+StaysListed f v = (listed (with_duty f v) ≡ listed v) × ((f v.duty).closing ≡ v.duty.closing)
+    × StaysIdle v (f v.duty)
 
 mark_below : (x : Option ℕ) (r : ℕ) → ((j : ℕ) → x ≡ Some j → j ≤ r) → mark_in x ≤ r + 1
 mark_below None r all = omega arith
@@ -14,10 +24,10 @@ mark_below (Some j) r all = let l = all j refl in omega arith
 
 module _ {T : Type 0} where
   -- the word of position p's slot
-  word_at : (s : St T) (k : Keeps s) (p j : ℕ) → j ≡ p % k.size + 2
+  word_at : (s : St T) (k : Keeps s) (p j : ℕ) → j ≡ p % k.size + 3
       → slice_index s.words j + 2 * (p % k.size) ≡ turn k.size k.states p
   word_at s k p j is =
-      let jj : j ≡ suc (suc (p % k.size)) = omega arith in
+      let jj : j ≡ suc (suc (suc (p % k.size))) = omega arith in
       ap (λ m. m + 2 * (p % k.size)) (λ z. slice_index (k.words z) (jj z))
 
   -- ---- the number drawn
@@ -81,7 +91,7 @@ module _ {T : Type 0} where
           (c.0, c.1, c.2, c.3, ((λ _. c.4), λ lt. absurd (high lt)))
 
   -- ---- the words of slots
-  pub sees_rooms : (slots i : ℕ) (me : Sat T) (j p : ℕ) → j ≡ p % slots + 2
+  pub sees_rooms : (slots i : ℕ) (me : Sat T) (j p : ℕ) → j ≡ p % slots + 3
       → Allows Keeps slots i me j (λ r. r) (seeing_room p (step slots j 0 0 none) me)
   sees_rooms slots i me j p is = steps slots i me j (λ r. r) (seeing_room p (step slots j 0 0 none) me)
       (λ s k₀ many at. let k = resized s k₀ slots many in
@@ -111,7 +121,7 @@ module _ {T : Type 0} where
       go s k at word (no busy) =
           (me.0, keeps, tt, stays s k j i me.0 at me.1, ((λ le. absurd (busy le)), λ _. (refl, refl)))
 
-  pub sees_marks : (slots i : ℕ) (me : Sat T) (j p : ℕ) → j ≡ p % slots + 2 → p ≤ me.0.sight.low
+  pub sees_marks : (slots i : ℕ) (me : Sat T) (j p : ℕ) → j ≡ p % slots + 3 → p ≤ me.0.sight.low
       → Allows Keeps slots i me j (λ r. r) (seeing_mark p (step slots j 0 0 none) me)
   sees_marks slots i me j p is low = steps slots i me j (λ r. r) (seeing_mark p (step slots j 0 0 none) me)
       (λ s k₀ many at. let k = resized s k₀ slots many in
@@ -256,64 +266,95 @@ module _ {T : Type 0} where
           subst (λ (l : List (Spot T)). Below r l) (sym (fit.member e).sent)
           (below_by i 0 r (all_entries k.history) (omega arith))
 
-  looks_at : (slots i : ℕ) (me : Sat T) (s : St T) (k : Keeps s) → get_elem? s.views i ≡ some me.0
+  looks_at : (f g : Duty → Duty) (slots i : ℕ) (me : Sat T) → StaysListed f me.0 → StaysListed g me.0
+      → (g me.0.duty).asleep ≡ me.0.duty.asleep → (s : St T) (k : Keeps s) → get_elem? s.views i ≡ some me.0
       → Dec (slice_index s.words 0 % 9223372036854775808 ≤ me.0.sight.low)
       → Dec (slice_index s.words 0 < 9223372036854775808)
-      → Goes s 0 i me (looking (step slots 0 0 0 none) me) (slice_index s.words 0)
-  looks_at slots i me s k at (no some_) open_ = (
+      → Goes s 0 i me (looking f g (step slots 0 0 0 none) me) (slice_index s.words 0)
+  looks_at f g slots i me lf lg sleeps s k at (no some_) open_ = (
     me.0,
     keeps,
     tt,
     stays s k 0 i me.0 at me.1,
     ((λ _. (refl, refl)), (λ le _. absurd (some_ le)), λ le _. absurd (some_ le)),
   )
-  looks_at slots i me s k at (yes none_) (yes open_) =
+  looks_at f g slots i me lf lg sleeps s k at (yes none_) (yes open_) =
       let r = slice_index s.words 0 in
+      let w = sees_empty r (with_duty f me.0) in
       let now_ = at0 s k in
       let empty = nothing_waits s k i me.0 at none_ in
       let zero_ : length k.history.rest ≡ 0 = ap length empty in
-      let f = (k.fits i me.0 at).sight in (
-        sees_empty r me.0,
+      let not_cut : k.cut ≡ 0 = omega arith in
+      let free_is : free k.cut 1 ≡ 1 = ap (λ (n : ℕ). free n 1) not_cut in
+      let fit = k.fits i me.0 at in
+      let y = fit.sight in
+      let l = lf.0 in (
+        w,
         keeps,
         tt,
-        sees s k 0 i me.0 at me.1 record me.0.sight { empty = r } record {
-          low = f.low;
-          top = f.top;
-          room = f.room;
-          ripe = f.ripe;
-          cut_ = f.cut_;
-          empty = omega arith;
-          full = f.full;
-        },
+        loaded s 0 i me.1 w (settled s k i me.0 w at l refl refl refl
+            (sighted k.history k.size k.states k.cut k.hub k.roll i (with_duty f me.0)
+            record me.0.sight { empty = r }
+            (refit k.history k.size k.states k.cut k.hub k.roll i me.0 (f me.0.duty) lf.2 fit)
+            record {
+              low = y.low;
+              top = y.top;
+              room = y.room;
+              ripe = y.ripe;
+              cut_ = y.cut_;
+              empty = omega arith;
+              full = y.full;
+            })
+            (λ L O C L' O' C' l' o c le q h. (inr (omega arith), inr (omega arith)))),
         (
           (λ lt. absurd (omega arith)),
           (λ _ _. ((refl, refl), all_below s k i me.0 at r (omega arith))),
           λ _ le. absurd (omega arith),
         ),
       )
-  looks_at slots i me s k at (yes none_) (no cut) =
+  looks_at f g slots i me lf lg sleeps s k at (yes none_) (no cut) =
+      let w = told (with_duty g me.0) in
       let now_ = at0 s k in
       let small = k.small in
       let empty = nothing_waits s k i me.0 at none_ in
-      let fit = k.fits i me.0 at in (
-        told me.0,
+      let zero_ : length k.history.rest ≡ 0 = ap length empty in
+      let fit = refit k.history k.size k.states k.cut k.hub k.roll i me.0 (g me.0.duty) lg.2 (k.fits i me.0 at) in
+      let l = lg.0 in (
+        w,
         keeps,
         tt,
-        loaded s 0 i me.1 (told me.0) (settled s k i me.0 (told me.0) at refl refl refl record {
+        loaded s 0 i me.1 w (settled s k i me.0 w at l refl refl refl record {
           member = λ r. let m = fit.member r in record
               { sent = m.sent; got = m.got; cut = m.cut; no_hub = m.no_hub; not_back = m.not_back };
           hub_ = λ r. let m = fit.hub_ r in record
               { here = m.here; ends = m.ends; nothing = m.nothing; idle = m.idle };
           back = fit.back;
+          debt = fit.debt;
           half = fit.half;
           sight = fit.sight;
           heard = fit.heard;
           over = λ _. (omega arith, empty);
-        }),
+        }
+            (λ L O C L' O' C' l' o c le q h. let e = lg.1 in
+            (inr (omega arith), ⊎_elim (λ x. inl (omega arith)) (λ x. inr (omega arith)) h))),
         ((λ lt. absurd (omega arith)), (λ _ lt. absurd (cut lt)), λ _ _. (refl, refl)),
       )
 
-  pub looks : (slots i : ℕ) (me : Sat T) → Allows Keeps slots i me 0 (λ r. r) (looking (step slots 0 0 0 none) me)
-  looks slots i me = steps slots i me 0 (λ r. r) (looking (step slots 0 0 0 none) me)
-      (λ s k many at. looks_at slots i me s k at (dec_le (slice_index s.words 0 % 9223372036854775808) me.0.sight.low)
+  looks_as : (f g : Duty → Duty) (slots i : ℕ) (me : Sat T) → StaysListed f me.0 → StaysListed g me.0
+      → (g me.0.duty).asleep ≡ me.0.duty.asleep
+      → Allows Keeps slots i me 0 (λ r. r) (looking f g (step slots 0 0 0 none) me)
+  looks_as f g slots i me lf lg sleeps = steps slots i me 0 (λ r. r) (looking f g (step slots 0 0 0 none) me)
+      (λ s k many at. looks_at f g slots i me lf lg sleeps s k at
+      (dec_le (slice_index s.words 0 % 9223372036854775808) me.0.sight.low)
       (dec_lt (slice_index s.words 0) 9223372036854775808))
+
+  pub looks : (slots i : ℕ) (me : Sat T) → Allows Keeps slots i me 0 (λ r. r)
+      (looking looked looked (step slots 0 0 0 none) me)
+  looks slots i me = looks_as looked looked slots i me (refl, refl, λ _ e. ap looked e)
+      (refl, refl, λ _ e. ap looked e) refl
+
+  pub looks_listed : (slots i : ℕ) (me : Sat T) → 0 < me.0.duty.fresh
+      → Allows Keeps slots i me 0 (λ r. r) (looking falls_asleep done (step slots 0 0 0 none) me)
+  looks_listed slots i me fresh = looks_as falls_asleep done slots i me
+      (omega arith, refl, owing (λ d. d.fresh) me.0 (falls_asleep me.0.duty) refl fresh)
+      (omega arith, refl, owing (λ d. d.fresh) me.0 (done me.0.duty) refl fresh) refl

@@ -8,6 +8,7 @@ use Rattle.mb_segment.proofs.Spots.{below_length, index_at, map_length, no_some,
 use Rattle.mb_segment.proofs.Halves.{either_over, empty_slots, hub_is_no_member, hub_is_not_spent, no_hub, spent_is_no_member}
 use Rattle.mb_ring.specs.Vocabulary.{Fits, Half, HasHalf, History, In, IsMember, Issuer, Keeps, Match, Member, Nothing, Reads, Role, Spent}
 use Rattle.mb_ring.specs.Vocabulary.{View, Writes, blank, if_hub, issued, member, new_hub, one_if_member, out, spent, spot, took_back, total, turn}
+use Rattle.mb_ring.specs.Vocabulary.{Duty, closing, listed, no_duty, owed, sleeping}
 use Rattle.mb_ring.proofs.Totals.{below_total, one_in_total, total_set, total_snoc}
 use Rattle.mb_ring.proofs.Halves.{half_stays}
 use Rattle.mb_ring.proofs.Kept.{St}
@@ -30,6 +31,7 @@ module _ {T : Type 0} where
         record { sent = m.sent; got = m.got; cut = m.cut; no_hub = m.no_hub; not_back = m.not_back };
     hub_ = λ e. let m = hub_ e in record { here = m.0; ends = m.1; nothing = refl; idle = (refl, refl) };
     back = λ e. (back e, refl, refl, refl);
+    debt = λ _. refl;
     half = tt;
     sight = record {
       low = omega arith;
@@ -53,7 +55,7 @@ module _ {T : Type 0} where
   unused = record { claims = []; rest = []; cutter = None }
 
   pub opens : (count : ℕ) → 0 < count
-      → Keeps (opening (0 ∷ 0 ∷ replicate count 0) (empty_slots T count) new_hub)
+      → Keeps (opening (0 ∷ 0 ∷ 0 ∷ replicate count 0) (empty_slots T count) new_hub)
   opens count some_ =
       let m₀ : length {A = ℕ} (replicate count 0) ≡ count = replicate_length count 0 in
       let m₁ : length (empty_slots T count) ≡ count = replicate_length count None in
@@ -62,8 +64,14 @@ module _ {T : Type 0} where
         history = unused;
         states = replicate count 0;
         size = count;
+        tokens = 0;
+        waiting = 0;
         cut = 0;
         words = refl;
+        narrow = omega arith;
+        counted = refl;
+        quiet = inl (omega arith);
+        shut = inl (omega arith);
         sized = (m₀, omega arith, some_);
         small = omega arith;
         cutter = refl;
@@ -103,6 +111,7 @@ module _ {T : Type 0} where
         record { sent = m.sent; got = m.got; cut = m.cut; no_hub = m.no_hub; not_back = m.not_back };
     hub_ = λ r. let m = f.hub_ r in record { here = m.here; ends = m.ends; nothing = m.nothing; idle = m.idle };
     back = f.back;
+    debt = f.debt;
     half = f.half;
     sight = f.sight;
     heard = f.heard;
@@ -115,6 +124,11 @@ module _ {T : Type 0} where
       let one : List (View T) = slice_set s.views n w in
       let many = size_set s.views n w in
       let more : length (one ++ blank ∷ []) ≡ length one + 1 = length-append one (blank ∷ []) in
+      let a₀ = total_set listed s.views n v w at in let b₀ = total_snoc listed one blank in
+      let a₁ = total_set sleeping s.views n v w at in let b₁ = total_snoc sleeping one blank in
+      let a₂ = total_set owed s.views n v w at in let b₂ = total_snoc owed one blank in
+      let a₃ = total_set closing s.views n v w at in let b₃ = total_snoc closing one blank in
+      let c = k.counted in
       let a₄ = total_set member s.views n v w at in let b₄ = total_snoc member one blank in
       let a₅ = total_set out s.views n v w at in let b₅ = total_snoc out one blank in
       let o₀ : if_hub v.role (v.out + 1) ≡ v.out + 1 = ap (λ (r : Role). if_hub r (v.out + 1)) role in
@@ -124,8 +138,14 @@ module _ {T : Type 0} where
         history = k.history;
         states = k.states;
         size = k.size;
+        tokens = k.tokens;
+        waiting = k.waiting;
         cut = k.cut;
         words = k.words;
+        narrow = k.narrow;
+        counted = omega arith;
+        quiet = ⊎_elim (λ x. inl (omega arith)) (λ x. inr (omega arith)) k.quiet;
+        shut = ⊎_elim (λ x. inl (omega arith)) (λ x. inr (omega arith)) k.shut;
         sized = k.sized;
         small = k.small;
         cutter = k.cutter;
@@ -195,8 +215,8 @@ module _ {T : Type 0} where
           go Spent e = ap (λ (x : Role). if_hub x u.out) e
 
   module _ (n : ℕ) (v : View T) (other : ℕ) (w : View T) (v_role : v.role ≡ Issuer) (w_role : w.role ≡ Member)
-      (w_half : w.half ≡ Nothing) (s : St T) (k : Keeps s) (at : get_elem? s.views n ≡ some v)
-      (apart : ¬ (other ≡ n))
+      (w_half : w.half ≡ Nothing) (w_duty : w.duty ≡ no_duty) (s : St T) (k : Keeps s)
+      (at : get_elem? s.views n ≡ some v) (apart : ¬ (other ≡ n))
       (at_other : get_elem? (slice_set s.views n (took_back v w)) other ≡ some w) where
     abbrev one : List (View T)
     one = slice_set s.views n (took_back v w)
@@ -243,6 +263,7 @@ module _ {T : Type 0} where
             idle = h.idle;
           };
           back = λ r. absurd (hub_is_not_spent v.role v_role r);
+          debt = f.debt;
           half = f.half;
           sight = f.sight;
           heard = let g = (k.fits other w was_other).heard in
@@ -262,6 +283,7 @@ module _ {T : Type 0} where
           };
           hub_ = λ r. absurd (ne_hub ((f.hub_ r).here ∙ sym ((k.fits n v at).hub_ v_role).here));
           back = λ r. let b = f.back r in (inr b.0, b.1, b.2, b.3);
+          debt = f.debt;
           half = f.half;
           sight = f.sight;
           heard = f.heard;
@@ -273,6 +295,19 @@ module _ {T : Type 0} where
         let many = size_set s.views n (took_back v w) in
         let many₁ = size_set one other spent in
         let below = below_length s.views other w was_other in
+        let a₀ = total_set listed s.views n v (took_back v w) at in
+        let b₀ = total_set listed one other w spent at_other in
+        let a₁ = total_set sleeping s.views n v (took_back v w) at in
+        let b₁ = total_set sleeping one other w spent at_other in
+        let a₂ = total_set owed s.views n v (took_back v w) at in
+        let b₂ = total_set owed one other w spent at_other in
+        let a₃ = total_set closing s.views n v (took_back v w) at in
+        let b₃ = total_set closing one other w spent at_other in
+        let w₀ : listed w ≡ 0 = ap (λ (d : Duty). d.fresh + d.asleep + d.leaving) w_duty in
+        let w₁ : sleeping w ≡ 0 = ap (λ (d : Duty). d.asleep) w_duty in
+        let w₂ : owed w ≡ 0 = ap (λ (d : Duty). d.wakes + d.looks + d.fresh + d.closing) w_duty in
+        let w₃ : closing w ≡ 0 = ap (λ (d : Duty). d.closing) w_duty in
+        let c = k.counted in
         let a₄ = total_set member s.views n v (took_back v w) at in
         let b₄ = total_set member one other w spent at_other in
         let a₅ = total_set out s.views n v (took_back v w) at in
@@ -288,8 +323,14 @@ module _ {T : Type 0} where
           history = k.history;
           states = k.states;
           size = k.size;
+          tokens = k.tokens;
+          waiting = k.waiting;
           cut = k.cut;
           words = k.words;
+          narrow = k.narrow;
+          counted = omega arith;
+          quiet = ⊎_elim (λ x. inl (omega arith)) (λ x. inr (omega arith)) k.quiet;
+          shut = ⊎_elim (λ x. inl (omega arith)) (λ x. inr (omega arith)) k.shut;
           sized = k.sized;
           small = k.small;
           cutter = k.cutter;
@@ -311,6 +352,6 @@ module _ {T : Type 0} where
         }
 
   pub joins : (n : ℕ) (v : View T) (other : ℕ) (w : View T) → v.role ≡ Issuer → w.role ≡ Member → w.half ≡ Nothing
-      → Joins Keeps n v other w (took_back v w) spent
-  joins n v other w v_role w_role w_half s k at apart at_other =
-      joined n v other w v_role w_role w_half s k at apart at_other
+      → w.duty ≡ no_duty → Joins Keeps n v other w (took_back v w) spent
+  joins n v other w v_role w_role w_half w_duty s k at apart at_other =
+      joined n v other w v_role w_role w_half w_duty s k at apart at_other

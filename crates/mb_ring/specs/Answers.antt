@@ -2,7 +2,7 @@
 use Rattle.std.specs.Prelude.{ℕ}
 use Rattle.mb_ring.specs.declared.answers.Draw.{Draw}
 use Rattle.mb_ring.specs.declared.answers.Draw.TheVariants as draw
-pub use Rattle.mb_segment.specs.Answers.{OfCut, OfLook}
+pub use Rattle.mb_segment.specs.Answers.{OfCut, OfLeave, OfLook, OfRest, OfWake, OfWakeAll}
 
 -- a draw: of a position; or of none, since the ring is full, cut or worn out, or since another is to go first
 abbrev pub OfDraw : Draw → (ℕ → Type 0) → Type 0 → Type 0 → Type 0 → Type 0 → Type 0

@@ -8,6 +8,7 @@ pub mod Steps
 pub mod Laws
 pub mod Seats
 pub mod Answers
+pub mod Waiting
 pub mod Ending
 pub mod Vocabulary
 pub mod RingSamples

@@ -2,8 +2,12 @@
 use Rattle.std.specs.Prelude.{None, Some, [], false, max, suc, true, ℕ, ◌+◌, ◌++◌, ◌-◌, ◌<◌, ◌∷◌, ◌≡◌}
 use Rattle.mb_segment.specs.History.{spot}
 use Rattle.mb_segment.specs.Moves.{Below, mark_in, or}
-use Rattle.mb_ring.specs.Types.{Nothing, Reads, View, Writes}
+use Rattle.mb_ring.specs.Types.{Duty, Nothing, Reads, View, Writes}
 use Rattle.mb_ring.specs.Passes.{blank, blind}
+
+-- it owes other things, and is in the list more or less often. What a step does to a duty is told for a segment
+abbrev pub with_duty : {T : Type 0} → (Duty → Duty) → View T → View T
+with_duty f v = record v { duty = f v.duty }
 
 -- ---- positions
 -- it drew position p for the value x, which counts as sent
@@ -92,16 +96,19 @@ issued v = record v { out = v.out + 1 }
 abbrev pub took_back : {T : Type 0} → View T → View T → View T
 took_back v w = record v { out = v.out - 1; ends = w.account ∷ v.ends; over = or v.over w.over }
 
--- ---- a view without the numbers that it loaded last, and a view at rest
+-- ---- a view without the numbers that it loaded last, or without all that it saw, and a view at rest
 abbrev pub bare : {T : Type 0} → View T → View T
 bare v = record v { sight = record v.sight { low = 0; top = 0; room = None } }
 
 abbrev pub calm : {T : Type 0} → View T → View T
 calm v = record blank { account = v.account; known = v.known; over = v.over }
 
--- the view is a pass's that has nothing begun
+abbrev pub blinded : {T : Type 0} → View T → View T
+blinded v = record v { sight = blind }
+
+-- the view is a pass's, which owes nothing, has nothing begun and is not in the list
 abbrev pub IsCalm : {T : Type 0} → View T → Type 0
-IsCalm v = record v { sight = blind } ≡ calm v
+IsCalm v = blinded v ≡ calm v
 
 -- it sent x at position p, or received it there
 abbrev pub sent_at : {T : Type 0} → ℕ → T → View T → View T

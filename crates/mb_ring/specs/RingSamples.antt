@@ -12,7 +12,7 @@ two_slots = Some 11 ∷ Some 10 ∷ []
 
 -- one slot, and no pass was issued
 abbrev pub unused : ℕ → RingState ℕ
-unused word = record { words = word ∷ 0 ∷ 0 ∷ []; homes = some None ∷ []; views = new_hub ∷ [] }
+unused word = record { words = word ∷ 0 ∷ 0 ∷ 0 ∷ []; homes = some None ∷ []; views = new_hub ∷ [] }
 
 -- a pass that has sent 10 at position 0, or has received it there
 abbrev pub sent : View ℕ
@@ -31,14 +31,14 @@ saw_full n = sees_full n got
 -- one slot. Two values wait, of which one is in it
 abbrev pub overfull : RingState ℕ
 overfull =
-    record { words = 2 ∷ 0 ∷ 1 ∷ []; homes = some (Some 10) ∷ []; views = record new_hub { out = 1 } ∷ sent ∷ [] }
+    record { words = 2 ∷ 0 ∷ 0 ∷ 1 ∷ []; homes = some (Some 10) ∷ []; views = record new_hub { out = 1 } ∷ sent ∷ [] }
 
 -- one slot. Position 0 waits, and the slot is already free for position 1
 abbrev pub reused : RingState ℕ
 reused =
-    record { words = 1 ∷ 0 ∷ 2 ∷ []; homes = some None ∷ []; views = record new_hub { out = 1 } ∷ sent ∷ [] }
+    record { words = 1 ∷ 0 ∷ 0 ∷ 2 ∷ []; homes = some None ∷ []; views = record new_hub { out = 1 } ∷ sent ∷ [] }
 
 -- a pass tells that it sent a value, and nothing was drawn
 abbrev pub boasting : RingState ℕ
 boasting =
-    record { words = 0 ∷ 0 ∷ 0 ∷ []; homes = some None ∷ []; views = record new_hub { out = 1 } ∷ sent ∷ [] }
+    record { words = 0 ∷ 0 ∷ 0 ∷ 0 ∷ []; homes = some None ∷ []; views = record new_hub { out = 1 } ∷ sent ∷ [] }

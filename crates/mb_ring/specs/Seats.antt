@@ -23,6 +23,6 @@ IsStill p q = (q.seat.table_id ≡ p.seat.table_id) × (q.seat.id ≡ p.seat.id)
 abbrev pub Becomes : {T : Type 0} → Pass T → Pass T → View T → Type 0
 Becomes p q w = (q.seat.me.0 ≡ w) × (q.seat.me.1 ≡ p.seat.me.1)
 
--- the pass has nothing begun, and holds no slot
+-- the pass owes nothing, has nothing begun, holds no slot, and is not in the list
 abbrev pub IsFree : {T : Type 0} → Pass T → Type 0
 IsFree p = IsCalm p.seat.me.0 × (p.seat.me.1 ≡ [])

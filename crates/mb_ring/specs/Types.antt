@@ -1,5 +1,6 @@
 -- The types of views, and their variants, under the names that definitions use. Most are a segment's.
 pub use Rattle.mb_segment.specs.declared.view.Account.{Account}
+pub use Rattle.mb_segment.specs.declared.view.Duty.{Duty}
 pub use Rattle.mb_segment.specs.declared.view.Half.{Half}
 pub use Rattle.mb_segment.specs.declared.view.Half.TheVariants.{Nothing, Reads, Writes}
 pub use Rattle.mb_segment.specs.declared.view.Known.{Known}

@@ -1,4 +1,4 @@
-//! A pass that has nothing begun, which can be moved to another thread, and dropped.
+//! A pass that owes nothing, which can be moved to another thread, and dropped.
 ghost use Rattle.std.specs.Prelude.{[], ◌≡◌};
 ghost use Rattle.mb_ring.specs.Moves.{IsCalm};
 ghost use Rattle.mb_ring.specs.Seats.{IsFree};
@@ -7,7 +7,7 @@ use crate::ring::Pass;
 use crate::view::View;
 use atomic_table::Seat;
 
-/// A pass that has nothing begun. If it is dropped, it never comes back to the hub,
+/// A pass that owes nothing, has nothing begun, and is not in the list. If it is dropped, it never comes back to the hub,
 /// which cannot end the ring then.
 #[derive(Drop)]
 pub struct Idle<T> {

@@ -2,8 +2,9 @@
 ghost use Rattle.std.specs.Prelude.{List, Some, [], length, true, ℕ, ◌+◌, ◌<◌, ◌∷◌, ◌≡◌, ◌≤◌, ◌⊎◌};
 ghost use mathlib.Core.Option.{some};
 ghost use lib.ListN.{get_elem?};
-ghost use Rattle.mb_ring.specs.{Claim, Entry, Has, IsCut, IsOfPass, IsPassOf, IsViewOf, Issuer, Keeps, Match, RingState, Rises};
-ghost use Rattle.mb_ring.specs.{SawAllGot, SawAllTaken, View, all_entries, claimed_in, drawn_in, got_by, new_hub, sent_by};
+ghost use Rattle.mb_ring.specs.{Claim, Entry, Has, IsCut, IsOfPass, IsPassOf, IsViewOf, Issuer, Keeps, Match, Member, RingState, Rises};
+ghost use Rattle.mb_ring.specs.{SawAllGot, SawAllTaken, View, all_entries, claimed_in, closing, drawn_in, got_by, listed, new_hub, owed};
+ghost use Rattle.mb_ring.specs.{sent_by, sleeping, total};
 
 /// All positions drawn stand in one order, and the first of them are those claimed. What a pass sent and what it
 /// received stand there in its own order. What is drawn or claimed next stands after all that was before.
@@ -79,4 +80,18 @@ pub fn one_cutter<T>()
         → v.account.cut ≡ true → IsCut s × (k.history.cutter ≡ Some n) }
     ensures new { (s : RingState T) (k : Keeps s) → s.views ≡ new_hub ∷ []
         → (drawn_in s ≡ 0) × (IsCut s → ⊥) }
+{}
+
+/// Between any two steps: if a receiver sleeps without a token, no more values wait than there are tokens given and debts
+/// owed: looks, wakes, and what closers owe. And if no more will be drawn, a closer still owes tokens. Whoever owes or is
+/// in the list is a pass that is out.
+pub fn no_wake_up_is_lost<T>()
+    ensures owed { (s : RingState T) (k : Keeps s) → 0 < total sleeping s.views
+        → claimed_in s < drawn_in s → 0 < k.tokens + total owed s.views }
+    ensures enough { (s : RingState T) (k : Keeps s) → k.tokens < total sleeping s.views
+        → drawn_in s ≤ claimed_in s + (k.tokens + total owed s.views) }
+    ensures over { (s : RingState T) (k : Keeps s) → k.tokens < total sleeping s.views
+        → IsCut s → 0 < total closing s.views }
+    ensures debtor { (s : RingState T) (k : Keeps s) (n : ℕ) (v : View T) → IsViewOf s n v
+        → 0 < owed v + listed v → v.role ≡ Member }
 {}

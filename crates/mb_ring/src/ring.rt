@@ -13,13 +13,13 @@ pub struct Ring<T: Drop, A: Allocator + Drop = Global> {
     pub(crate) table: Table<Option<T>, View<T>, (), RingRule, A>,
     pub(crate) size: u64,
     ghost sized: { size ≡ table.shared.table_id.slots },
-    ghost wide: { table.shared.table_id.words ≡ size + 2 },
+    ghost wide: { table.shared.table_id.words ≡ size + 3 },
     ghost some: { 0 < size },
     ghost small: { size < 4294967296 },
 }
 
 /// What one thread sends and receives with. It has no bytes. It cannot be dropped: the hub takes it back, or it rests,
-/// and it has nothing begun then.
+/// and it owes nothing then.
 pub struct Pass<T> {
     pub(crate) seat: Seat<Option<T>, View<T>>,
 }
@@ -39,7 +39,7 @@ impl<T: Drop, A: Allocator + Clone + Drop> Ring<T, A> {
         ensures ring { IfOk result (λ r. r.1.seat.table_id ≡ r.0.table.shared.table_id) }
         ensures hub { IfOk result (λ r. hub_view r.1 ≡ new_hub) }
     {
-        let words = vec![in alloc.clone()?; 0u64; size as usize + 2]?;
+        let words = vec![in alloc.clone()?; 0u64; size as usize + 3]?;
         let (table, seat) = Table::vacant(alloc, words.as_slice(), size as usize, &())?;
         Ok((
             Ring {
@@ -73,7 +73,7 @@ impl<T: Drop, A: Allocator + Drop> Ring<T, A> {
         }
     }
 
-    /// Takes back a pass that has nothing begun. The hub then has what it sent and received.
+    /// Takes back a pass that owes nothing. The hub then has what it sent and received.
     pub fn take_back(&self, hub: &mut Hub<T>, pass: Pass<T>)
         requires ring { (hub.old.seat.table_id ≡ self.now.table.shared.table_id)
             × (pass.seat.table_id ≡ self.now.table.shared.table_id) }

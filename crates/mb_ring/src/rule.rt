@@ -40,6 +40,13 @@ impl Position for Brand {
     ghost position = { 0 };
 }
 
+/// What a step does to the duty of its pass.
+pub trait Effect {
+    ghost use Rattle.mb_segment.specs.declared.view.Duty.{Duty};
+
+    ghost of: { Duty → Duty };
+}
+
 /// The exchange that draws a position.
 pub struct Draws<X> {
     of: PhantomData<X>,
@@ -52,12 +59,14 @@ impl<T, X: Value<T>> Play<Option<T>, View<T>> for Draws<X> {
 }
 
 /// The exchange that claims a position.
-pub struct Claims;
+pub struct Claims<F> {
+    of: PhantomData<F>,
+}
 
-impl<T> Play<Option<T>, View<T>> for Claims {
+impl<T, F: Effect> Play<Option<T>, View<T>> for Claims<F> {
     ghost use Rattle.mb_ring.specs.Steps.{claiming};
 
-    ghost then = { claiming };
+    ghost then = { claiming F.of };
 }
 
 /// The store that marks a position, or says that it is read.
@@ -73,10 +82,35 @@ impl<T> Play<Option<T>, View<T>> for Ends {
 pub struct Cuts;
 
 impl<T> Play<Option<T>, View<T>> for Cuts {
-    ghost use Rattle.mb_ring.specs.Moves.{did_cut};
+    ghost use Rattle.mb_segment.specs.Moves.{owes_all};
+    ghost use Rattle.mb_ring.specs.Moves.{did_cut, with_duty};
     ghost use Rattle.mb_ring.specs.Steps.{exchanging};
 
-    ghost then = { exchanging did_cut };
+    ghost then = { exchanging (λ v. with_duty owes_all (did_cut v)) };
+}
+
+/// Any other exchange.
+pub struct Exchanges<F> {
+    of: PhantomData<F>,
+}
+
+impl<T, F: Effect> Play<Option<T>, View<T>> for Exchanges<F> {
+    ghost use Rattle.mb_ring.specs.Moves.{with_duty};
+    ghost use Rattle.mb_ring.specs.Steps.{exchanging};
+
+    ghost then = { exchanging (with_duty F.of) };
+}
+
+/// A load that changes what is owed, whatever it finds.
+pub struct Always<F> {
+    of: PhantomData<F>,
+}
+
+impl<T, F: Effect> Play<Option<T>, View<T>> for Always<F> {
+    ghost use Rattle.mb_ring.specs.Moves.{with_duty};
+    ghost use Rattle.mb_ring.specs.Steps.{always};
+
+    ghost then = { always (with_duty F.of) };
 }
 
 /// The load of the number drawn, before a draw.
@@ -138,12 +172,25 @@ impl<T, P: Position> Play<Option<T>, View<T>> for SeesMark<P> {
 }
 
 /// The load of the number drawn, after one of the number claimed.
-pub struct Looks;
+pub struct Looks<F, G> {
+    of: PhantomData<(F, G)>,
+}
 
-impl<T> Play<Option<T>, View<T>> for Looks {
+impl<T, F: Effect, G: Effect> Play<Option<T>, View<T>> for Looks<F, G> {
     ghost use Rattle.mb_ring.specs.Steps.{looking};
 
-    ghost then = { looking };
+    ghost then = { looking F.of G.of };
+}
+
+/// The load of the list that may find that nobody waits without a token.
+pub struct NoneWaits<F> {
+    of: PhantomData<F>,
+}
+
+impl<T, F: Effect> Play<Option<T>, View<T>> for NoneWaits<F> {
+    ghost use Rattle.mb_ring.specs.Steps.{if_none_waits};
+
+    ghost then = { if_none_waits F.of };
 }
 
 /// The hub issues a pass, and takes it back.

@@ -3,35 +3,16 @@ ghost use Rattle.std.specs.Prelude.{◌<◌, ◌≡◌};
 ghost use Rattle.std.specs.Thread.{IsSync};
 ghost use Rattle.mb_ring.specs.{IsFree, IsStill};
 
-use crate::answers::Draw;
 use crate::idle::Idle;
 use crate::left::Left;
 use crate::ring::{Pass, Ring};
-use mb_segment::{Cut, Look};
+use crate::waiting::NotSent;
+use mb_segment::Received;
 use std::alloc::{AllocError, Global};
 use std::sync::Wait;
 use std::test::Fail;
-use std::thread::{Threads, join, yield_now};
-
-/// Sends one value, if a position can be drawn for it.
-fn try_send(ring: &Ring<u64>, pass: &mut Pass<u64>, value: u64) -> Draw
-    requires ring { pass.old.seat.table_id ≡ ring.now.table.shared.table_id }
-    requires free { IsFree pass.old }
-    ensures pass { IsStill pass.old pass.new }
-    ensures free { IsFree pass.new }
-{
-    match ring.draw(pass, &value) {
-        Draw::At(at) => {
-            ring.mark(pass, at, value);
-            Draw::At(at)
-        }
-        Draw::Full => Draw::Full,
-        Draw::Closed => Draw::Closed,
-        Draw::Worn => Draw::Worn,
-        Draw::Yield => Draw::Yield,
-        Draw::Again => Draw::Again,
-    }
-}
+use std::thread::{Threads, join, sleep, yield_now};
+use std::time::{Clock, Duration, Instant};
 
 /// Sends one value, and yields while the ring is full. False if it was cut.
 fn send<R: Wait>(rt: &R, ring: &Ring<u64>, pass: &mut Pass<u64>, value: u64) -> bool
@@ -41,35 +22,10 @@ fn send<R: Wait>(rt: &R, ring: &Ring<u64>, pass: &mut Pass<u64>, value: u64) -> 
     ensures free { IsFree pass.new }
 {
     for _ in rt.forever() {
-        match try_send(ring, pass, value) {
-            Draw::At(_) => return true,
-            Draw::Closed => return false,
-            Draw::Worn => return false,
-            Draw::Full => yield_now(),
-            Draw::Yield => yield_now(),
-            Draw::Again => {}
-        }
-    }
-    unreachable!()
-}
-
-/// Receives one value, and yields while none is there. `None` if none can come any more.
-fn receive<R: Wait>(rt: &R, ring: &Ring<u64>, pass: &mut Pass<u64>) -> Option<u64>
-    requires ring { pass.old.seat.table_id ≡ ring.now.table.shared.table_id }
-    requires free { IsFree pass.old }
-    ensures pass { IsStill pass.old pass.new }
-    ensures free { IsFree pass.new }
-{
-    for _ in rt.forever() {
-        match ring.look(pass) {
-            Look::Ready(at) => {
-                if ring.claim(pass, at) {
-                    return Some(ring.read(pass, at));
-                }
-            }
-            Look::Over => return None,
-            Look::Yield => yield_now(),
-            Look::Empty => yield_now(),
+        match ring.send(rt, pass, value) {
+            Ok(()) => return true,
+            Err(NotSent::Full(_)) => yield_now(),
+            Err(_) => return false,
         }
     }
     unreachable!()
@@ -100,7 +56,7 @@ fn receive_all<R: Wait>(
     let mut count: u64 = 0;
     let mut sum: u64 = 0;
     for _ in 0..most {
-        match receive(rt, ring, &mut pass) {
+        match ring.receive(rt, &mut pass) {
             None => break,
             Some(value) => {
                 count = count.wrapping_add(1);
@@ -244,28 +200,65 @@ fn the_end_has_what_two_receivers_left(rt: HostRuntime) -> Result<(), Fail> {
     Ok(())
 }
 
-/// Three values fill three slots. A fourth finds the ring full, until one is received. Once it is cut, it takes no more,
-/// and is over when all is received.
+/// One thread receives a value, which another sends after a pause.
+fn run_two<R: Threads + Wait + Clock + Sync>(
+    rt: &R,
+    alloc: Global,
+    pause: Duration,
+) -> Result<u64, AllocError> {
+    let (ring, mut hub) = Ring::<u64>::new(alloc, 4)?;
+    let w = &ring;
+    let a = w.issue(&mut hub).rest();
+    let b = w.issue(&mut hub).rest();
+    let (x, y) = join(
+        rt,
+        move || -> (u64, u64, Idle<u64>)
+            requires { a.seat.table_id ≡ w.now.table.shared.table_id }
+        { receive_all(rt, w, a, 1) },
+        move || -> Idle<u64>
+            requires { b.seat.table_id ≡ w.now.table.shared.table_id }
+        {
+            sleep(rt, pause);
+            send_all(rt, w, b, 1)
+        },
+    );
+    drop(x.2);
+    drop(y);
+    Ok(x.0)
+}
+
+/// It hangs if who gives the token wakes no thread.
+#[test]
+fn a_sleeper_is_woken(rt: HostRuntime) -> Result<(), Fail> {
+    let count = run_two(&rt, rt.alloc(), Duration::from_millis(50))?;
+    assert!(rt; count == 1);
+    Ok(())
+}
+
+/// Two values fill two slots. A third finds the ring full, until one is received. Once it is cut, it takes no more, and it
+/// is over when all is received. A receive ends by its deadline.
 #[test]
 fn a_full_ring_takes_no_more(rt: HostRuntime) -> Result<(), Fail> {
-    let (ring, mut hub) = Ring::<u64>::new(rt.alloc(), 3)?;
+    let (ring, mut hub) = Ring::<u64>::new(rt.alloc(), 2)?;
+    let now = Instant::now(&rt)?;
+    let soon = now.checked_add(Duration::from_millis(20)).unwrap_or(now);
     let mut pass = ring.issue(&mut hub);
-    let empty = ring.look(&mut pass);
-    let first = try_send(&ring, &mut pass, 1);
-    send(&rt, &ring, &mut pass, 2);
-    send(&rt, &ring, &mut pass, 3);
-    let full = try_send(&ring, &mut pass, 4);
-    let one = receive(&rt, &ring, &mut pass);
-    let fourth = try_send(&ring, &mut pass, 4);
-    let cut = ring.cut(&mut pass);
-    let closed = try_send(&ring, &mut pass, 5);
-    let two = receive(&rt, &ring, &mut pass);
+    let none = ring.receive_by(&rt, &mut pass, soon);
+    drop(ring.send(&rt, &mut pass, 1));
+    drop(ring.send(&rt, &mut pass, 2));
+    let full = ring.send(&rt, &mut pass, 3);
+    let one = ring.receive(&rt, &mut pass);
+    let third = ring.send(&rt, &mut pass, 3);
+    ring.close(&rt, &mut pass);
+    let closed = ring.send(&rt, &mut pass, 4);
+    let two = ring.receive(&rt, &mut pass);
+    let three = ring.receive_by(&rt, &mut pass, soon);
+    let over = ring.receive(&rt, &mut pass);
     drop(pass.rest());
-    assert!(rt; empty == Look::Empty);
-    assert!(rt; first == Draw::At(0));
-    assert!(rt; full == Draw::Full);
-    assert!(rt; fourth == Draw::At(3));
-    assert!(rt; cut == Cut::Done && closed == Draw::Closed);
-    assert!(rt; one == Some(1) && two == Some(2));
+    assert!(rt; matches!(&none, Received::TimedOut));
+    assert!(rt; matches!(&full, Err(NotSent::Full(3))) && third.is_ok());
+    assert!(rt; matches!(&closed, Err(NotSent::Closed(4))));
+    assert!(rt; one == Some(1) && two == Some(2) && matches!(&three, Received::Value(3)));
+    assert!(rt; over.is_none());
     Ok(())
 }

@@ -1,5 +1,5 @@
 //! What a pass or the hub of a ring knows. No value of these types is made: they exist in proofs alone.
-use mb_segment::{Account, Half, Known, Role};
+use mb_segment::{Account, Duty, Half, Known, Role};
 use std::collections::LinkedList;
 
 /// What a pass saw of the words. It stays true.
@@ -25,6 +25,8 @@ pub struct View<T> {
     pub account: Account<T>,
     pub known: Known,
     pub half: Half<T>,
+    /// What it owes, and how often it stands in the list of those that wait for a value. `closing`: it cut the ring.
+    pub duty: Duty,
     pub sight: Sight,
     /// It was told that no value can come any more.
     pub over: bool,

@@ -1,9 +1,10 @@
 //! Each atomic step on the numbers drawn and claimed, and on the words of the slots.
 ghost use Rattle.std.specs.Prelude.{List, None, Option, Some, [], ℕ, ◌%◌, ◌*◌, ◌+◌, ◌<◌, ◌∷◌, ◌≡◌, ◌≢◌, ◌≤◌};
-ghost use Rattle.mb_ring.specs.{Becomes, IsStill, MaySend, MayTake, Member, Nothing, SawAllGot, SawAllTaken, did_cut, drew};
-ghost use Rattle.mb_ring.specs.{held_by, marked_to, sees_cut, sees_drawn, sees_empty, sees_full, sees_mark, sees_room, sees_taken};
-ghost use Rattle.mb_ring.specs.{told, took, view_in};
+ghost use Rattle.mb_ring.specs.{Becomes, IsStill, MaySend, MayTake, Member, Nothing, SawAllGot, SawAllTaken, did_cut, done};
+ghost use Rattle.mb_ring.specs.{drew, falls_asleep, held_by, looked, marked_to, owes_all, owes_wake, sees_cut, sees_drawn};
+ghost use Rattle.mb_ring.specs.{sees_empty, sees_full, sees_mark, sees_room, sees_taken, told, took, view_in, with_duty};
 
+use crate::effects::{Done, FallsAsleep, Looked};
 use crate::ring::{Pass, Ring};
 use crate::rule::{
     Asks, Claims, Counts, Cuts, Draws, Looks, Position, SeesCut, SeesMark, SeesRoom, SeesTaken,
@@ -25,9 +26,9 @@ pub(crate) const MOST: u64 = 4611686018427387904;
 /// The word of a slot.
 pub(crate) fn word_of(slot: u64) -> usize
     requires { slot < 4294967296 }
-    ensures { result ≡ slot + 2 }
+    ensures { result ≡ slot + 3 }
 {
-    slot as usize + 2
+    slot as usize + 3
 }
 
 impl<T: Drop, A: Allocator + Drop> Ring<T, A> {
@@ -99,7 +100,8 @@ impl<T: Drop, A: Allocator + Drop> Ring<T, A> {
         requires most { at < 4611686018427387904 }
         requires new { new ≡ at + 1 }
         ensures pass { IsStill pass.old pass.new }
-        ensures drawn { result ≡ at → (view_in pass.new ≡ drew at value.now (view_in pass.old))
+        ensures drawn { result ≡ at → (view_in pass.new
+            ≡ with_duty owes_wake (drew at value.now (view_in pass.old)))
             × (held_by pass.new ≡ (at % self.now.size, None) ∷ held_by pass.old)
             × MaySend (view_in pass.old) }
         ensures missed { result ≢ at → Becomes pass.old pass.new (view_in pass.old) }
@@ -129,7 +131,8 @@ impl<T: Drop, A: Allocator + Drop> Ring<T, A> {
         requires open { seen < 9223372036854775808 }
         requires new { new ≡ seen + 9223372036854775808 }
         ensures pass { IsStill pass.old pass.new }
-        ensures cut { result ≡ seen → Becomes pass.old pass.new (did_cut (view_in pass.old)) }
+        ensures cut { result ≡ seen
+            → Becomes pass.old pass.new (with_duty owes_all (did_cut (view_in pass.old))) }
         ensures missed { result ≢ seen → Becomes pass.old pass.new (view_in pass.old) }
     {
         self.table
@@ -175,13 +178,36 @@ impl<T: Drop, A: Allocator + Drop> Ring<T, A> {
             → Becomes pass.old pass.new (view_in pass.old) }
         ensures empty { result % 9223372036854775808 ≤ (view_in pass.old).sight.low
             → result < 9223372036854775808
-            → Becomes pass.old pass.new (sees_empty result (view_in pass.old))
+            → Becomes pass.old pass.new (sees_empty result (with_duty looked (view_in pass.old)))
             × SawAllTaken (view_in pass.new) }
         ensures over { result % 9223372036854775808 ≤ (view_in pass.old).sight.low
             → 9223372036854775808 ≤ result
-            → Becomes pass.old pass.new (told (view_in pass.old)) }
+            → Becomes pass.old pass.new (told (with_duty looked (view_in pass.old))) }
     {
-        self.table.shared.load::<Looks>(&mut pass.seat, DRAWN)
+        self.table
+            .shared
+            .load::<Looks<Looked, Looked>>(&mut pass.seat, DRAWN)
+    }
+
+    /// The same for one in the list: if no value is there yet, it sleeps from then on.
+    pub(crate) fn load_drawn_listed(&self, pass: &mut Pass<T>) -> u64
+        requires ring { pass.old.seat.table_id ≡ self.now.table.shared.table_id }
+        requires fresh { 0 < (view_in pass.old).duty.fresh }
+        ensures pass { IsStill pass.old pass.new }
+        ensures some { (view_in pass.old).sight.low < result % 9223372036854775808
+            → Becomes pass.old pass.new (view_in pass.old) }
+        ensures empty { result % 9223372036854775808 ≤ (view_in pass.old).sight.low
+            → result < 9223372036854775808
+            → Becomes pass.old pass.new
+            (sees_empty result (with_duty falls_asleep (view_in pass.old)))
+            × SawAllTaken (view_in pass.new) }
+        ensures over { result % 9223372036854775808 ≤ (view_in pass.old).sight.low
+            → 9223372036854775808 ≤ result
+            → Becomes pass.old pass.new (told (with_duty done (view_in pass.old))) }
+    {
+        self.table
+            .shared
+            .load::<Looks<FallsAsleep, Done>>(&mut pass.seat, DRAWN)
     }
 
     /// Claims the position, if it is still the first that waits. Its slot is then out with the pass.
@@ -193,13 +219,33 @@ impl<T: Drop, A: Allocator + Drop> Ring<T, A> {
         requires new { new ≡ at + 1 }
         ensures pass { IsStill pass.old pass.new }
         ensures claimed { result ≡ at → (x : T)
-            × (view_in pass.new ≡ took at x (view_in pass.old))
+            × (view_in pass.new ≡ with_duty looked (took at x (view_in pass.old)))
             × (held_by pass.new ≡ (at % self.now.size, Some x) ∷ held_by pass.old)
             × MayTake (view_in pass.old) }
         ensures missed { result ≢ at → Becomes pass.old pass.new (view_in pass.old) }
     {
         self.table
             .shared
-            .compare_exchange::<Claims>(&mut pass.seat, TAKEN, at, new)
+            .compare_exchange::<Claims<Looked>>(&mut pass.seat, TAKEN, at, new)
+    }
+
+    /// The same for one in the list, which is then about to leave.
+    pub(crate) fn claim_listed_from(&self, pass: &mut Pass<T>, at: u64, new: u64) -> u64
+        requires ring { pass.old.seat.table_id ≡ self.now.table.shared.table_id }
+        requires member { (view_in pass.old).role ≡ Member }
+        requires idle { (view_in pass.old).half ≡ Nothing }
+        requires fresh { 0 < (view_in pass.old).duty.fresh }
+        requires ripe { (view_in pass.old).sight.ripe ≡ Some at }
+        requires new { new ≡ at + 1 }
+        ensures pass { IsStill pass.old pass.new }
+        ensures claimed { result ≡ at → (x : T)
+            × (view_in pass.new ≡ with_duty done (took at x (view_in pass.old)))
+            × (held_by pass.new ≡ (at % self.now.size, Some x) ∷ held_by pass.old)
+            × MayTake (view_in pass.old) }
+        ensures missed { result ≢ at → Becomes pass.old pass.new (view_in pass.old) }
+    {
+        self.table
+            .shared
+            .compare_exchange::<Claims<Done>>(&mut pass.seat, TAKEN, at, new)
     }
 }

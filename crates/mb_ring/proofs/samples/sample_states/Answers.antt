@@ -24,7 +24,7 @@ returns-clause-reused c k =
     let d = at0 reused k in let t = at1 reused k in let m = k.small in
     let l = all_length k.history in
     let e = at_below (all_entries k.history) 0 (omega arith) in
-    let word : slice_index k.states 0 ≡ 2 = sym (ap (λ l. slice_index l 2) k.words) in
+    let word : slice_index k.states 0 ≡ 2 = sym (ap (λ l. slice_index l 3) k.words) in
     let z : turn k.size k.states 0 ≡ slice_index k.states 0 + 2 * 0
     = ap (λ (i : ℕ). slice_index k.states i + 2 * i) (zero-mod k.size) in
     ⊎_elim (λ y. let q = y.0 in absurd (omega arith)) (λ y. let q = y.0 in absurd (omega arith))

@@ -10,5 +10,6 @@ join_seat-requires g c = let wide = c.args.self.now.wide in let free = c.require
   free.1,
   omega arith,
   joins c.args.hub.now.seat.id c.args.hub.now.seat.me.0 c.args.pass.seat.id c.args.pass.seat.me.0 c.requires.hub
-      (ap (λ (v : View _). v.role) free.0) (ap (λ (v : View _). v.half) free.0),
+      (ap (λ (v : View _). v.role) free.0) (ap (λ (v : View _). v.half) free.0)
+      (ap (λ (v : View _). v.duty) free.0),
 )
