@@ -1,5 +1,5 @@
--- Which slot a position has, and what each slot holds. A ring has n slots. Position k has slot k % n, as have k + n,
--- k + 2 n and so on. A slot's word is even, and twice the position that opened the lap; once that is marked, 1 more.
+-- Which slot a position has, and what each slot holds. A ring has n slots. Position k has slot k % n, and so do k + n,
+-- k + 2 n and so on. A slot's word is twice the first position of its lap, and 1 more while its own position is marked.
 use Rattle.std.specs.Prelude.{List, None, Option, Some, slice_index, ℕ, ◌%◌, ◌*◌, ◌+◌, ◌<◌, ◌≡◌, ◌≤◌, ◌⊎◌}
 use mathlib.Core.Option.{some}
 use mathlib.Core.Option as maybe

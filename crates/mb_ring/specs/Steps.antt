@@ -54,7 +54,8 @@ seeing_room k st m r n =
     (2 * k ≤ r + 2 * (k % st.slots) → becomes m n (sees_room k m.0))
     × (r + 2 * (k % st.slots) < 2 * k → becomes m n m.0)
 
--- a load of the number claimed, after one of the number drawn: as many values wait as there are slots, or fewer do now
+-- a load of the number claimed, after one of the number drawn: just as many values wait as there are slots, or the number
+-- drawn that was loaded does not tell so
 abbrev pub counting : {T : Type 0} → Step (Option T) → Sat T → ℕ → Sat T → Type 0
 counting st m r n =
     (r + st.slots ≤ m.0.sight.top → becomes m n (sees_full r m.0) × SawAllGot n.0)

@@ -11,7 +11,7 @@ pub enum Draw {
     Closed,
     /// 2^62 positions were drawn. No more will be.
     Worn,
-    /// The next slot was claimed, and not read yet. Yield, and draw again.
+    /// The slot of the next position is not free: its position a lap before is not read yet. Yield, and draw again.
     Yield,
     /// Another pass drew or cut first. Draw again.
     Again,

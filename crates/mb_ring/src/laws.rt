@@ -4,7 +4,7 @@ ghost use mathlib.Core.Option.{some};
 ghost use lib.ListN.{get_elem?};
 ghost use Rattle.mb_ring.specs.{Claim, Entry, Has, IsCut, IsOfPass, IsPassOf, IsViewOf, Issuer, Keeps, Match, Member, RingState, Rises};
 ghost use Rattle.mb_ring.specs.{SawAllGot, SawAllTaken, View, all_entries, claimed_in, closing, drawn_in, got_by, listed, new_hub, owed};
-ghost use Rattle.mb_ring.specs.{sent_by, sleeping, total};
+ghost use Rattle.mb_ring.specs.{Reads, Writes, sent_by, sleeping, spot, total};
 
 /// All positions drawn stand in one order, and the first of them are those claimed. What a pass sent and what it
 /// received stand there in its own order. What is drawn or claimed next stands after all that was before.
@@ -70,6 +70,21 @@ pub fn over_is_true<T>()
         → Has p x v.account.sent ⊎ (v.sight.ripe ≡ Some p) → p < claimed_in s }
     ensures cut { (s : RingState T) (k : Keeps s) (n : ℕ) (v : View T) → IsViewOf s n v
         → v.sight.cut ≡ true → IsCut s }
+{}
+
+/// A slot is drawn again only after its value was read. While a pass has still to read position p, no position is drawn
+/// that is a lap or more behind. A position that a pass has still to mark waits, and one that was seen marked is drawn. A
+/// ring from which a draw loaded 2^62 draws no more.
+pub fn slots_in_turn<T>()
+    ensures reads { (s : RingState T) (k : Keeps s) (n : ℕ) (v : View T) (p : ℕ) (x : T)
+        → IsViewOf s n v → v.half ≡ Reads (spot p x)
+        → (p < claimed_in s) × (drawn_in s ≤ p + length s.homes) }
+    ensures writes { (s : RingState T) (k : Keeps s) (n : ℕ) (v : View T) (p : ℕ) (x : T)
+        → IsViewOf s n v → v.half ≡ Writes (spot p x) → (claimed_in s ≤ p) × (p < drawn_in s) }
+    ensures marked { (s : RingState T) (k : Keeps s) (n : ℕ) (v : View T) (p : ℕ) → IsViewOf s n v
+        → v.sight.ripe ≡ Some p → (p ≤ claimed_in s) × (p < drawn_in s) }
+    ensures worn { (s : RingState T) (k : Keeps s) (n : ℕ) (v : View T) → IsViewOf s n v
+        → 4611686018427387904 ≤ v.sight.top → drawn_in s ≡ 4611686018427387904 }
 {}
 
 /// Only a pass cuts the ring, and only one: its account says so. Before a pass is issued, nothing is drawn or cut.

@@ -16,8 +16,8 @@ use std::marker::Brand;
 impl<T: Drop, A: Allocator + Drop> Ring<T, A> {
     /// Draws the next position for this value, which counts as sent from then on. The pass has to mark the position,
     /// and then owes a wake.
-    /// "Full" is exact: at the moment of the last access as many values waited as there are slots, and all was counted as
-    /// claimed that the pass had received. Three accesses.
+    /// At "Full", as many values waited as there are slots when the last access was made. All that the pass had received
+    /// was claimed then. Three accesses at most.
     pub fn draw(&self, pass: &mut Pass<T>, value: &T) -> Draw
         requires ring { pass.old.seat.table_id ≡ self.now.table.shared.table_id }
         requires free { IsFree pass.old }

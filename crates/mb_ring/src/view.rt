@@ -20,6 +20,7 @@ pub struct Sight {
     pub full: Option<u64>,
 }
 
+/// What the pass or the hub did, has begun, owes and saw.
 pub struct View<T> {
     pub role: Role,
     pub account: Account<T>,
