@@ -1,6 +1,7 @@
 -- Rings of numbers: some that the definitions admit, and some that they refuse. Pass 1 sends, pass 2 receives.
 use Rattle.std.specs.Prelude.{List, None, Option, Some, [], ℕ, ◌∷◌}
 use mathlib.Core.Option.{some}
+use Rattle.mb_segment.specs.Passes.{no_duty}
 use Rattle.mb_ring.specs.Types.{Nothing, View}
 use Rattle.mb_ring.specs.Passes.{blank, new_hub}
 use Rattle.mb_ring.specs.Moves.{drew, sees_empty, sees_full, took}
@@ -42,3 +43,22 @@ reused =
 abbrev pub boasting : RingState ℕ
 boasting =
     record { words = 0 ∷ 0 ∷ 0 ∷ 0 ∷ []; homes = some None ∷ []; views = record new_hub { out = 1 } ∷ sent ∷ [] }
+
+abbrev pub sleeper : View ℕ
+sleeper = record blank { duty = record no_duty { asleep = 1 } }
+
+-- one slot, in which a value waits. Pass 2 sleeps without a token, and nobody owes anything
+abbrev pub overslept : RingState ℕ
+overslept = record {
+  words = 1 ∷ 0 ∷ 4294967296 ∷ 1 ∷ [];
+  homes = some (Some 10) ∷ [];
+  views = record new_hub { out = 2 } ∷ sent ∷ sleeper ∷ [];
+}
+
+-- the ring is cut. Pass 1 sleeps without a token, and nobody owes anything
+abbrev pub forgotten : RingState ℕ
+forgotten = record {
+  words = 9223372036854775808 ∷ 0 ∷ 4294967296 ∷ 0 ∷ [];
+  homes = some None ∷ [];
+  views = record new_hub { out = 1 } ∷ sleeper ∷ [];
+}

@@ -1,17 +1,21 @@
 //! Samples of the definitions: what they admit, and what only looks right. The functions compute nothing: their
 //! contracts are the samples.
 ghost use Rattle.std.specs.Prelude.{[], ◌∷◌, ◌≡◌};
-ghost use Rattle.mb_ring.specs.{IsCalm, IsCut, Keeps, SawAllGot, SawAllTaken, Stand, drawn_in, drew, turn};
-ghost use Rattle.mb_ring.specs.RingSamples.{boasting, overfull, reused, saw_empty, saw_full, sent, two_slots, unused};
+ghost use Rattle.mb_ring.specs.{IsCalm, IsCut, Keeps, SawAllGot, SawAllTaken, Stand, drawn_in, drew, owes_wake, turn};
+ghost use Rattle.mb_ring.specs.{with_duty};
+ghost use Rattle.mb_ring.specs.RingSamples.{boasting, forgotten, overfull, overslept, reused, saw_empty, saw_full, sent, two_slots, unused};
 
 /// The rule. A new ring is admitted. Refused: one that is cut before a pass is issued, and one with more values than
 /// slots. Refused too: one whose slot is free again before its value was taken, and one with a send that did not happen.
+/// Refused as well: two in which a receiver sleeps and nobody owes anything. In one a value waits, the other is cut.
 pub fn sample_states()
     ensures new { Keeps (unused 0) }
     ensures cut { Keeps (unused 9223372036854775808) → ⊥ }
     ensures overfull { Keeps overfull → ⊥ }
     ensures reused { Keeps reused → ⊥ }
     ensures boasting { Keeps boasting → ⊥ }
+    ensures overslept { Keeps overslept → ⊥ }
+    ensures forgotten { Keeps forgotten → ⊥ }
     ensures open { (IsCut (unused 0) → ⊥) × (drawn_in (unused 9223372036854775809) ≡ 1) }
 {}
 
@@ -33,4 +37,5 @@ pub fn sample_views()
     ensures early { SawAllGot (saw_full 0) → ⊥ }
     ensures calm { IsCalm sent }
     ensures busy { IsCalm (drew 1 11 sent) → ⊥ }
+    ensures owes { IsCalm (with_duty owes_wake sent) → ⊥ }
 {}

@@ -1,9 +1,10 @@
 use Rattle.mb_ring.proofs.Base.{ap, arith, inl, refl, ◌*◌, slice_index, sym, ℕ, ⊎_elim, ◌+◌, ◌≡◌}
 use Rattle.std.proofs.Math.Nat.{zero-mod}
 use Rattle.mb_segment.proofs.Spots.{all_length, at_below, below_length}
-use Rattle.mb_ring.specs.RingSamples.{boasting, overfull, reused, sent, unused}
-use Rattle.mb_ring.specs.Vocabulary.{all_entries, turn}
-use Rattle.mb_ring.proofs.Kept.{at0, at1}
+use Rattle.mb_ring.specs.RingSamples.{boasting, forgotten, overfull, overslept, reused, sent, unused}
+use Rattle.mb_ring.specs.Vocabulary.{all_entries, turn, free}
+use Rattle.mb_segment.proofs.Halves.{free_shut}
+use Rattle.mb_ring.proofs.Kept.{at0, at1, at2}
 use Rattle.mb_ring.proofs.PassMoves.{opens}
 use Rattle.mb_ring.proofs.Places.{is_drawn, new_open}
 use Rattle.mb_ring.proofs.samples.sample_states.Goals as goal
@@ -36,3 +37,16 @@ returns-clause-boasting c k =
     let e = is_drawn boasting k 1 sent 0 10 (refl, refl) (inl (refl, refl)) in
     let l = all_length k.history in
     let b = below_length (all_entries k.history) 0 e.0 e.1 in absurd (omega arith)
+
+pub returns-clause-overslept : goal.returns-clause-overslept
+returns-clause-overslept c k =
+    let d = at0 overslept k in let t = at1 overslept k in let l = at2 overslept k in
+    let n = k.narrow in let m = k.small in
+    ⊎_elim (λ x. absurd (omega arith)) (λ x. absurd (omega arith)) k.quiet
+
+pub returns-clause-forgotten : goal.returns-clause-forgotten
+returns-clause-forgotten c k =
+    let d = at0 forgotten k in let l = at2 forgotten k in
+    let n = k.narrow in let m = k.small in
+    let none_ : free k.cut 1 ≡ 0 = free_shut k.cut 1 (omega arith) in
+    ⊎_elim (λ x. absurd (omega arith)) (λ x. absurd (omega arith)) k.shut
