@@ -85,10 +85,10 @@ module _ {T : Type 0} where
               empty = f.empty;
               full = f.full;
             },
-            ((λ le. absurd (omega arith)), λ _. (refl, refl)),
+            ((λ le. absurd (omega arith)), (λ _. (refl, refl)), λ on. let y = f.cut_ on in omega arith),
           )
       go s k at (no high) = let c = cut_seen i me s k at (omega arith) in
-          (c.0, c.1, c.2, c.3, ((λ _. c.4), λ lt. absurd (high lt)))
+          (c.0, c.1, c.2, c.3, ((λ _. c.4), (λ lt. absurd (high lt)), λ _. omega arith))
 
   -- ---- the words of slots
   pub sees_rooms : (slots i : ℕ) (me : Sat T) (j p : ℕ) → j ≡ p % slots + 3

@@ -1,5 +1,5 @@
 -- What each step tells its caller. `r` is the number found, `m` the seat before, `n` the seat after.
-use Rattle.std.specs.Prelude.{None, Option, Some, ℕ, ◌%◌, ◌*◌, ◌+◌, ◌<◌, ◌∷◌, ◌≡◌, ◌≢◌, ◌≤◌}
+use Rattle.std.specs.Prelude.{None, Option, Some, true, ℕ, ◌%◌, ◌*◌, ◌+◌, ◌<◌, ◌∷◌, ◌≡◌, ◌≢◌, ◌≤◌}
 use Rattle.atomic_table.specs.Table.{Me, Step, rest}
 use Rattle.mb_segment.specs.Moves.{owes_wake}
 use Rattle.mb_ring.specs.Types.{Duty, View}
@@ -43,10 +43,11 @@ claiming {T} f st m r n =
 abbrev pub ending : {T : Type 0} → Step (Option T) → Sat T → ℕ → Sat T → Type 0
 ending st m r n = (n.0 ≡ ended m.0) × (n.1 ≡ rest m.1)
 
--- a load of the number drawn, before a draw
+-- a load of the number drawn, before a draw. Once it was seen that the ring is cut, each finds it so
 abbrev pub asking : {T : Type 0} → Step (Option T) → Sat T → ℕ → Sat T → Type 0
 asking st m r n =
     (9223372036854775808 ≤ r → becomes m n (sees_cut m.0)) × (r < 9223372036854775808 → becomes m n (sees_drawn r m.0))
+    × (m.0.sight.cut ≡ true → 9223372036854775808 ≤ r)
 
 -- a load of the word of position k's slot, before a draw: the slot is free for k, or still at the turn before
 abbrev pub seeing_room : {T : Type 0} → ℕ → Step (Option T) → Sat T → ℕ → Sat T → Type 0

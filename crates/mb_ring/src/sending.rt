@@ -1,8 +1,9 @@
 //! The calls of senders.
-ghost use Rattle.std.specs.Prelude.{None, Some, [], ℕ, ◌%◌, ◌<◌, ◌∷◌, ◌≡◌, ◌≤◌};
+ghost use Rattle.std.specs.Prelude.{None, Some, [], true, ℕ, ◌%◌, ◌<◌, ◌∷◌, ◌≡◌, ◌≤◌};
 ghost use Rattle.mb_ring.specs.{Becomes, IsFree, IsStill, MaySend, Member, OfCut, OfDraw, OfWake, OfWakeAll, SawAllGot};
 ghost use Rattle.mb_ring.specs.{Writes, bare, did_cut, drew, ended, has_closed, has_woken, held_by, owes_all, owes_wake};
 ghost use Rattle.mb_ring.specs.{sees_cut, sees_full, spot, view_in, with_duty};
+ghost use Rattle.mb_ring.specs.declared.answers.Draw.TheVariants.{Closed};
 
 use crate::answers::Draw;
 use crate::list::LISTED;
@@ -22,6 +23,7 @@ impl<T: Drop, A: Allocator + Drop> Ring<T, A> {
         requires ring { pass.old.seat.table_id ≡ self.now.table.shared.table_id }
         requires free { IsFree pass.old }
         ensures pass { IsStill pass.old pass.new }
+        ensures told { (view_in pass.old).sight.cut ≡ true → result ≡ Closed }
         ensures answer { OfDraw result
             (λ at. (at < 4611686018427387904)
             × (held_by pass.new ≡ (at % self.now.size, None) ∷ [])

@@ -1,5 +1,5 @@
 //! Each atomic step on the numbers drawn and claimed, and on the words of the slots.
-ghost use Rattle.std.specs.Prelude.{List, None, Option, Some, [], ℕ, ◌%◌, ◌*◌, ◌+◌, ◌<◌, ◌∷◌, ◌≡◌, ◌≢◌, ◌≤◌};
+ghost use Rattle.std.specs.Prelude.{List, None, Option, Some, [], true, ℕ, ◌%◌, ◌*◌, ◌+◌, ◌<◌, ◌∷◌, ◌≡◌, ◌≢◌, ◌≤◌};
 ghost use Rattle.mb_ring.specs.{Becomes, IsStill, MaySend, MayTake, Member, Nothing, SawAllGot, SawAllTaken, did_cut, done};
 ghost use Rattle.mb_ring.specs.{drew, falls_asleep, held_by, looked, marked_to, owes_all, owes_wake, sees_cut, sees_drawn};
 ghost use Rattle.mb_ring.specs.{sees_empty, sees_full, sees_mark, sees_room, sees_taken, told, took, view_in, with_duty};
@@ -50,6 +50,7 @@ impl<T: Drop, A: Allocator + Drop> Ring<T, A> {
             → Becomes pass.old pass.new (sees_cut (view_in pass.old)) }
         ensures open { result < 9223372036854775808
             → Becomes pass.old pass.new (sees_drawn result (view_in pass.old)) }
+        ensures told { (view_in pass.old).sight.cut ≡ true → 9223372036854775808 ≤ result }
     {
         self.table.shared.load::<Asks>(&mut pass.seat, DRAWN)
     }
