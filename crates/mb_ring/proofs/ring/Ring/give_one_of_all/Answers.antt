@@ -1,0 +1,11 @@
+use Rattle.std.proofs.Common.{arith}
+use Rattle.mb_ring.proofs.ListMoves.{gives_all}
+use Rattle.mb_ring.proofs.ring.Ring.give_one_of_all.Goals as goal
+
+pub compare_exchange-requires : goal.compare_exchange-requires
+compare_exchange-requires g c = let wide = c.args.self.now.wide in let r = c.requires in (
+  r.ring,
+  omega arith,
+  gives_all c.args.self.now.table.shared.table_id.slots c.args.pass.now.seat.id c.args.pass.now.seat.me
+      c.args.seen c.args.new r.waits r.room r.new,
+)

@@ -1,0 +1,15 @@
+use Rattle.std.proofs.Common.{List, arith, replicate, rules, subst, suc, sym, ℕ, ◌+◌, ◌∙◌, ◌≡◌}
+use Rattle.atomic_table.specs.Table.{opening}
+use Rattle.mb_segment.proofs.Halves.{empty_slots}
+use Rattle.mb_ring.specs.Vocabulary.{Keeps, new_hub}
+use Rattle.mb_ring.proofs.PassMoves.{opens}
+use Rattle.mb_ring.proofs.ring.Ring.new.Goals as goal
+
+-- words that are all 0, and empty slots, keep the rule
+pub vacant-requires : goal.vacant-requires
+vacant-requires g c =
+    let many : c.args.size + 3 ≡ suc (suc (suc c.args.size)) = omega arith in
+    let zeros : c.as_slice.result.now ≡ replicate (c.args.size + 3) 0 = search rules in
+    subst (λ (ws : List ℕ). Keeps (opening ws (empty_slots _ c.args.size) new_hub))
+    (sym (zeros ∙ (λ i. replicate (many i) 0)))
+    (opens c.args.size c.requires.some)

@@ -1,0 +1,52 @@
+use Rattle.mb_ring.proofs.Base.{ap, arith, inl, refl, ◌*◌, slice_index, sym, ℕ, ⊎_elim, ◌+◌, ◌≡◌}
+use Rattle.std.proofs.Math.Nat.{zero-mod}
+use Rattle.mb_segment.proofs.Spots.{all_length, at_below, below_length}
+use Rattle.mb_ring.specs.RingSamples.{boasting, forgotten, overfull, overslept, reused, sent, unused}
+use Rattle.mb_ring.specs.Vocabulary.{all_entries, turn, free}
+use Rattle.mb_segment.proofs.Halves.{free_shut}
+use Rattle.mb_ring.proofs.Kept.{at0, at1, at2}
+use Rattle.mb_ring.proofs.PassMoves.{opens}
+use Rattle.mb_ring.proofs.Places.{is_drawn, new_open}
+use Rattle.mb_ring.proofs.samples.sample_states.Goals as goal
+
+pub returns-clause-new : goal.returns-clause-new
+returns-clause-new c = opens 1 (omega arith)
+
+pub returns-clause-cut : goal.returns-clause-cut
+returns-clause-cut c k = new_open (unused 9223372036854775808) k refl (omega arith)
+
+pub returns-clause-overfull : goal.returns-clause-overfull
+returns-clause-overfull c k =
+    let d = at0 overfull k in let t = at1 overfull k in let m = k.small in let w = k.within in let n = k.sized.1 in
+    absurd (omega arith)
+
+pub returns-clause-reused : goal.returns-clause-reused
+returns-clause-reused c k =
+    let d = at0 reused k in let t = at1 reused k in let m = k.small in
+    let l = all_length k.history in
+    let e = at_below (all_entries k.history) 0 (omega arith) in
+    let word : slice_index k.states 0 ≡ 2 = sym (ap (λ l. slice_index l 3) k.words) in
+    let z : turn k.size k.states 0 ≡ slice_index k.states 0 + 2 * 0
+    = ap (λ (i : ℕ). slice_index k.states i + 2 * i) (zero-mod k.size) in
+    ⊎_elim (λ y. let q = y.0 in absurd (omega arith)) (λ y. let q = y.0 in absurd (omega arith))
+    (k.waits 0 e.0 (omega arith) e.1)
+
+pub returns-clause-boasting : goal.returns-clause-boasting
+returns-clause-boasting c k =
+    let d = at0 boasting k in let m = k.small in
+    let e = is_drawn boasting k 1 sent 0 10 (refl, refl) (inl (refl, refl)) in
+    let l = all_length k.history in
+    let b = below_length (all_entries k.history) 0 e.0 e.1 in absurd (omega arith)
+
+pub returns-clause-overslept : goal.returns-clause-overslept
+returns-clause-overslept c k =
+    let d = at0 overslept k in let t = at1 overslept k in let l = at2 overslept k in
+    let n = k.narrow in let m = k.small in
+    ⊎_elim (λ x. absurd (omega arith)) (λ x. absurd (omega arith)) k.quiet
+
+pub returns-clause-forgotten : goal.returns-clause-forgotten
+returns-clause-forgotten c k =
+    let d = at0 forgotten k in let l = at2 forgotten k in
+    let n = k.narrow in let m = k.small in
+    let none_ : free k.cut 1 ≡ 0 = free_shut k.cut 1 (omega arith) in
+    ⊎_elim (λ x. absurd (omega arith)) (λ x. absurd (omega arith)) k.shut

@@ -1,0 +1,118 @@
+-- How a step changes a view.
+use Rattle.std.specs.Prelude.{None, Some, [], false, max, suc, true, ℕ, ◌+◌, ◌++◌, ◌-◌, ◌<◌, ◌∷◌, ◌≡◌}
+use Rattle.mb_segment.specs.History.{spot}
+use Rattle.mb_segment.specs.Moves.{Below, mark_in, or}
+use Rattle.mb_ring.specs.Types.{Duty, Nothing, Reads, View, Writes}
+use Rattle.mb_ring.specs.Passes.{blank, blind}
+
+-- it owes other things, and is in the list more or less often. What a step does to a duty is told for a segment
+abbrev pub with_duty : {T : Type 0} → (Duty → Duty) → View T → View T
+with_duty f v = record v { duty = f v.duty }
+
+-- ---- positions
+-- it drew position p for the value x, which counts as sent
+abbrev pub drew : {T : Type 0} → ℕ → T → View T → View T
+drew p x v = record v {
+  account = record v.account {
+    sent = v.account.sent ++ spot p x ∷ [];
+    sent_knew = v.account.sent_knew ++ v.known.drawn ∷ [];
+  };
+  known = record v.known { drawn = suc p };
+  half = Writes (spot p x);
+}
+
+abbrev pub took : {T : Type 0} → ℕ → T → View T → View T
+took p x v = record v {
+  account = record v.account {
+    got = v.account.got ++ spot p x ∷ [];
+    got_knew = v.account.got_knew ++ v.known.taken ∷ [];
+  };
+  known = record { drawn = max v.known.drawn (suc p); taken = suc p };
+  half = Reads (spot p x);
+}
+
+-- it has marked the position, or read it
+abbrev pub ended : {T : Type 0} → View T → View T
+ended v = record v { half = Nothing }
+
+-- ---- what was seen
+abbrev pub sees_drawn : {T : Type 0} → ℕ → View T → View T
+sees_drawn r v = record v { sight = record v.sight { top = r } }
+
+abbrev pub sees_taken : {T : Type 0} → ℕ → View T → View T
+sees_taken r v = record v { sight = record v.sight { low = r } }
+
+-- the slot of position k was free for it
+abbrev pub sees_room : {T : Type 0} → ℕ → View T → View T
+sees_room k v = record v { sight = record v.sight { room = Some k } }
+
+abbrev pub sees_mark : {T : Type 0} → ℕ → View T → View T
+sees_mark k v = record v { sight = record v.sight { ripe = Some k } }
+
+-- how far it saw marks: one more than the position seen marked last, or 0
+abbrev pub marked_to : {T : Type 0} → View T → ℕ
+marked_to v = mark_in v.sight.ripe
+
+abbrev pub sees_cut : {T : Type 0} → View T → View T
+sees_cut v = record v { sight = record v.sight { cut = true } }
+
+-- it cut the ring
+abbrev pub did_cut : {T : Type 0} → View T → View T
+did_cut v = record v { account = record v.account { cut = true }; sight = record v.sight { cut = true } }
+
+-- it saw that all positions were claimed when n were drawn
+abbrev pub sees_empty : {T : Type 0} → ℕ → View T → View T
+sees_empty n v = record v { sight = record v.sight { empty = n } }
+
+-- it saw that all slots had values that wait when t positions were claimed
+abbrev pub sees_full : {T : Type 0} → ℕ → View T → View T
+sees_full t v = record v { sight = record v.sight { full = Some t } }
+
+-- when it saw the ring empty, all was claimed that it had sent, and the mark that it saw last
+abbrev pub SawAllTaken : {T : Type 0} → View T → Type 0
+SawAllTaken v = Below v.sight.empty v.account.sent
+    × ((p : ℕ) → v.sight.ripe ≡ Some p → p < v.sight.empty)
+
+-- when it saw the ring full, all was counted as claimed that it had received
+abbrev pub SawAllGot : {T : Type 0} → View T → Type 0
+SawAllGot v = (t : ℕ) → v.sight.full ≡ Some t → Below t v.account.got
+
+-- it is told that no value can come any more
+abbrev pub told : {T : Type 0} → View T → View T
+told v = record v { over = true }
+
+-- what it was told rules out no claim, and no draw
+abbrev pub MayTake : {T : Type 0} → View T → Type 0
+MayTake v = v.over ≡ false
+
+abbrev pub MaySend : {T : Type 0} → View T → Type 0
+MaySend v = (v.sight.cut ≡ false) × (v.account.cut ≡ false) × (v.over ≡ false)
+
+-- ---- the hub
+abbrev pub issued : {T : Type 0} → View T → View T
+issued v = record v { out = v.out + 1 }
+
+-- the hub takes a pass back: it has its account, and knows whether it was told that no value can come any more
+abbrev pub took_back : {T : Type 0} → View T → View T → View T
+took_back v w = record v { out = v.out - 1; ends = w.account ∷ v.ends; over = or v.over w.over }
+
+-- ---- a view without the numbers that it loaded last, or without all that it saw, and a view at rest
+abbrev pub bare : {T : Type 0} → View T → View T
+bare v = record v { sight = record v.sight { low = 0; top = 0; room = None } }
+
+abbrev pub calm : {T : Type 0} → View T → View T
+calm v = record blank { account = v.account; known = v.known; over = v.over }
+
+abbrev pub blinded : {T : Type 0} → View T → View T
+blinded v = record v { sight = blind }
+
+-- the view is a pass's, which owes nothing, has nothing begun and is not in the list
+abbrev pub IsCalm : {T : Type 0} → View T → Type 0
+IsCalm v = blinded v ≡ calm v
+
+-- it sent x at position p, or received it there
+abbrev pub sent_at : {T : Type 0} → ℕ → T → View T → View T
+sent_at p x v = ended (drew p x v)
+
+abbrev pub got_at : {T : Type 0} → ℕ → T → View T → View T
+got_at p x v = ended (took p x v)

@@ -1,0 +1,64 @@
+-- Rings of numbers: some that the definitions admit, and some that they refuse. Pass 1 sends, pass 2 receives.
+use Rattle.std.specs.Prelude.{List, None, Option, Some, [], ℕ, ◌∷◌}
+use mathlib.Core.Option.{some}
+use Rattle.mb_segment.specs.Passes.{no_duty}
+use Rattle.mb_ring.specs.Types.{Nothing, View}
+use Rattle.mb_ring.specs.Passes.{blank, new_hub}
+use Rattle.mb_ring.specs.Moves.{drew, sees_empty, sees_full, took}
+use Rattle.mb_ring.specs.Laws.{RingState}
+
+-- 11 in slot 0, and 10 in slot 1
+abbrev pub two_slots : List (Option ℕ)
+two_slots = Some 11 ∷ Some 10 ∷ []
+
+-- one slot, and no pass was issued
+abbrev pub unused : ℕ → RingState ℕ
+unused word = record { words = word ∷ 0 ∷ 0 ∷ 0 ∷ []; homes = some None ∷ []; views = new_hub ∷ [] }
+
+-- a pass that has sent 10 at position 0, or has received it there
+abbrev pub sent : View ℕ
+sent = record (drew 0 10 blank) { half = Nothing }
+
+abbrev pub got : View ℕ
+got = record (took 0 10 blank) { half = Nothing }
+
+-- it saw the ring empty when n positions were drawn, or full when n were claimed
+abbrev pub saw_empty : ℕ → View ℕ
+saw_empty n = sees_empty n sent
+
+abbrev pub saw_full : ℕ → View ℕ
+saw_full n = sees_full n got
+
+-- one slot. Two values wait, of which one is in it
+abbrev pub overfull : RingState ℕ
+overfull =
+    record { words = 2 ∷ 0 ∷ 0 ∷ 1 ∷ []; homes = some (Some 10) ∷ []; views = record new_hub { out = 1 } ∷ sent ∷ [] }
+
+-- one slot. Position 0 waits, and the slot is already free for position 1
+abbrev pub reused : RingState ℕ
+reused =
+    record { words = 1 ∷ 0 ∷ 0 ∷ 2 ∷ []; homes = some None ∷ []; views = record new_hub { out = 1 } ∷ sent ∷ [] }
+
+-- a pass tells that it sent a value, and nothing was drawn
+abbrev pub boasting : RingState ℕ
+boasting =
+    record { words = 0 ∷ 0 ∷ 0 ∷ 0 ∷ []; homes = some None ∷ []; views = record new_hub { out = 1 } ∷ sent ∷ [] }
+
+abbrev pub sleeper : View ℕ
+sleeper = record blank { duty = record no_duty { asleep = 1 } }
+
+-- one slot, in which a value waits. Pass 2 sleeps without a token, and nobody owes anything
+abbrev pub overslept : RingState ℕ
+overslept = record {
+  words = 1 ∷ 0 ∷ 4294967296 ∷ 1 ∷ [];
+  homes = some (Some 10) ∷ [];
+  views = record new_hub { out = 2 } ∷ sent ∷ sleeper ∷ [];
+}
+
+-- the ring is cut. Pass 1 sleeps without a token, and nobody owes anything
+abbrev pub forgotten : RingState ℕ
+forgotten = record {
+  words = 9223372036854775808 ∷ 0 ∷ 4294967296 ∷ 0 ∷ [];
+  homes = some None ∷ [];
+  views = record new_hub { out = 1 } ∷ sleeper ∷ [];
+}

@@ -1,0 +1,49 @@
+//! The end of a ring, which tells its whole history.
+ghost use Rattle.std.specs.Prelude.{List, None, Option, Some, [], true, ◌∷◌, ◌≡◌};
+ghost use Rattle.mb_ring.specs.{HasLeft, IsWhole, Issuer, hub_view};
+
+use crate::left::Left;
+use crate::ring::{Hub, Ring};
+use crate::words::CUT;
+use std::alloc::Allocator;
+
+impl<T: Drop, A: Allocator + Drop> Ring<T, A> {
+    /// Ends the ring, once the hub has taken back all passes. Their accounts and the values left are those of one history.
+    pub fn end(self, hub: Hub<T>) -> Left<T, A>
+        requires ring { hub.seat.table_id ≡ self.table.shared.table_id }
+        requires hub { (hub_view hub).role ≡ Issuer }
+        requires back { (hub_view hub).out ≡ 0 }
+        ensures whole { (left : List T) × IsWhole (hub_view hub).ends left × HasLeft result left
+            × ((hub_view hub).over ≡ true → left ≡ []) }
+    {
+        let Hub { seat } = hub;
+        let Ring { table, size } = self;
+        let closed = table.close_with(seat);
+        let drawn = closed.word(0) % CUT;
+        let taken = closed.word(1);
+        Left {
+            closed,
+            at: taken,
+            until: drawn,
+            size,
+        }
+    }
+}
+
+impl<T: Drop, A: Allocator + Drop> Left<T, A> {
+    /// The next of the values left.
+    pub fn next(&mut self) -> Option<T>
+        ensures some { (x : T) (xs : List T) → HasLeft self.old (x ∷ xs)
+            → (result ≡ Some x) × HasLeft self.new xs }
+        ensures none { HasLeft self.old [] → (result ≡ None) × HasLeft self.new [] }
+    {
+        if self.at >= self.until {
+            return None;
+        }
+        let slot = (self.at % self.size) as usize;
+        let value = self.closed.slots.take(slot);
+        self.closed.slots.put(slot, None);
+        self.at = self.at + 1;
+        value
+    }
+}

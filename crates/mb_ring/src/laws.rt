@@ -1,0 +1,112 @@
+//! The laws of a ring, over all histories. The functions compute nothing: their contracts are the laws.
+ghost use Rattle.std.specs.Prelude.{List, Some, [], length, true, ℕ, ◌+◌, ◌<◌, ◌∷◌, ◌≡◌, ◌≤◌, ◌⊎◌};
+ghost use mathlib.Core.Option.{some};
+ghost use lib.ListN.{get_elem?};
+ghost use Rattle.mb_ring.specs.{Claim, Entry, Has, IsCut, IsOfPass, IsPassOf, IsViewOf, Issuer, Keeps, Match, Member, RingState, Rises};
+ghost use Rattle.mb_ring.specs.{SawAllGot, SawAllTaken, View, all_entries, claimed_in, closing, drawn_in, got_by, listed, new_hub, owed};
+ghost use Rattle.mb_ring.specs.{Reads, Writes, sent_by, sleeping, spot, total};
+
+/// All positions drawn stand in one order, and the first of them are those claimed. What a pass sent and what it
+/// received stand there in its own order. What is drawn or claimed next stands after all that was before.
+pub fn one_order<T>()
+    ensures sent { (s : RingState T) (k : Keeps s) (n : ℕ) (v : View T) → IsPassOf s n v
+        → (v.account.sent ≡ sent_by n k.history) × Rises 0 v.account.sent }
+    ensures got { (s : RingState T) (k : Keeps s) (n : ℕ) (v : View T) → IsPassOf s n v
+        → (v.account.got ≡ got_by n k.history) × Rises 0 v.account.got }
+    ensures later_drawn { (s : RingState T) (k : Keeps s) (n : ℕ) (v : View T) (p : ℕ) (x : T)
+        → IsPassOf s n v → Has p x v.account.sent → p < drawn_in s }
+    ensures later_claimed { (s : RingState T) (k : Keeps s) (n : ℕ) (v : View T) (p : ℕ) (x : T)
+        → IsPassOf s n v → Has p x v.account.got → p < claimed_in s }
+{}
+
+/// A position has one drawer and one taker, and its taker got what its drawer gave. Each position below the number drawn
+/// was drawn by a pass. Each below the number claimed was taken by one, so nobody overtakes. What passes that came back
+/// had done is in the same history.
+pub fn one_taker<T>()
+    ensures taker { (s : RingState T) (k : Keeps s) (i j : ℕ) (u v : View T) (p : ℕ) (x y : T)
+        → IsPassOf s i u → IsPassOf s j v
+        → Has p x u.account.got → Has p y v.account.got → (i ≡ j) × (x ≡ y) }
+    ensures drawer { (s : RingState T) (k : Keeps s) (i j : ℕ) (u v : View T) (p : ℕ) (x y : T)
+        → IsPassOf s i u → IsPassOf s j v
+        → Has p x u.account.sent → Has p y v.account.sent → (i ≡ j) × (x ≡ y) }
+    ensures same { (s : RingState T) (k : Keeps s) (i j : ℕ) (u v : View T) (p : ℕ) (x y : T)
+        → IsPassOf s i u → IsPassOf s j v
+        → Has p x u.account.sent → Has p y v.account.got → x ≡ y }
+    ensures beginning { (s : RingState T) (k : Keeps s) (p : ℕ) → p < claimed_in s
+        → (c : Claim T) × (get_elem? k.history.claims p ≡ some c)
+        × IsOfPass s c.to (λ a. Has p c.entry.value a.got) }
+    ensures drawn { (s : RingState T) (k : Keeps s) (p : ℕ) → p < drawn_in s
+        → (e : Entry T) × (get_elem? (all_entries k.history) p ≡ some e)
+        × IsOfPass s e.by (λ a. Has p e.value a.sent) }
+    ensures back { (s : RingState T) (k : Keeps s) (n : ℕ) (v : View T) → IsViewOf s n v
+        → v.role ≡ Issuer → Match k.history k.roll v.ends }
+{}
+
+/// At each moment no more values wait than there are slots. Where a sender loaded the number drawn, and then finds as many
+/// fewer claimed as there are slots, just as many values wait at that load. What it was told of that stays true, and all
+/// that it had received by then was claimed by then.
+pub fn full_is_true<T>()
+    ensures within { (s : RingState T) (k : Keeps s)
+        → (claimed_in s ≤ drawn_in s) × (drawn_in s ≤ claimed_in s + length s.homes) }
+    ensures exact { (s : RingState T) (k : Keeps s) (n : ℕ) (v : View T) → IsViewOf s n v
+        → claimed_in s + length s.homes ≤ v.sight.top
+        → drawn_in s ≡ claimed_in s + length s.homes }
+    ensures full { (s : RingState T) (k : Keeps s) (n : ℕ) (v : View T) (t : ℕ) → IsViewOf s n v
+        → v.sight.full ≡ Some t → (t ≤ claimed_in s) × (t + length s.homes ≤ drawn_in s) }
+    ensures got { (v : View T) (t p : ℕ) (x : T) → SawAllGot v → v.sight.full ≡ Some t
+        → Has p x v.account.got → p < t }
+{}
+
+/// Where a receiver loaded the number claimed, and then finds no more drawn, each position drawn is claimed at that
+/// load. What it had sent or seen marked then was claimed, and stays so. Where a pass was told that no value can come any
+/// more, none waits, and the ring is cut; where it was told that the ring is cut, it is.
+pub fn over_is_true<T>()
+    ensures empty { (s : RingState T) (k : Keeps s) (n : ℕ) (v : View T) → IsViewOf s n v
+        → drawn_in s ≤ v.sight.low → (drawn_in s ≡ claimed_in s) × (k.history.rest ≡ []) }
+    ensures over { (s : RingState T) (k : Keeps s) (n : ℕ) (v : View T) → IsViewOf s n v
+        → v.over ≡ true → IsCut s × (drawn_in s ≡ claimed_in s) × (k.history.rest ≡ []) }
+    ensures taken { (s : RingState T) (k : Keeps s) (n : ℕ) (v : View T) (p : ℕ) (x : T)
+        → IsViewOf s n v → SawAllTaken v
+        → Has p x v.account.sent ⊎ (v.sight.ripe ≡ Some p) → p < claimed_in s }
+    ensures cut { (s : RingState T) (k : Keeps s) (n : ℕ) (v : View T) → IsViewOf s n v
+        → v.sight.cut ≡ true → IsCut s }
+{}
+
+/// A slot is drawn again only after its value was read. While a pass has still to read position p, no position is drawn
+/// that is a lap or more behind. A position that a pass has still to mark waits, and one that was seen marked is drawn. A
+/// ring from which a draw loaded 2^62 draws no more.
+pub fn slots_in_turn<T>()
+    ensures reads { (s : RingState T) (k : Keeps s) (n : ℕ) (v : View T) (p : ℕ) (x : T)
+        → IsViewOf s n v → v.half ≡ Reads (spot p x)
+        → (p < claimed_in s) × (drawn_in s ≤ p + length s.homes) }
+    ensures writes { (s : RingState T) (k : Keeps s) (n : ℕ) (v : View T) (p : ℕ) (x : T)
+        → IsViewOf s n v → v.half ≡ Writes (spot p x) → (claimed_in s ≤ p) × (p < drawn_in s) }
+    ensures marked { (s : RingState T) (k : Keeps s) (n : ℕ) (v : View T) (p : ℕ) → IsViewOf s n v
+        → v.sight.ripe ≡ Some p → (p ≤ claimed_in s) × (p < drawn_in s) }
+    ensures worn { (s : RingState T) (k : Keeps s) (n : ℕ) (v : View T) → IsViewOf s n v
+        → 4611686018427387904 ≤ v.sight.top → drawn_in s ≡ 4611686018427387904 }
+{}
+
+/// Only a pass cuts the ring, and only one: its account says so. Before a pass is issued, nothing is drawn or cut.
+pub fn one_cutter<T>()
+    ensures cutter { (s : RingState T) (k : Keeps s) → IsCut s
+        → (n : ℕ) × (k.history.cutter ≡ Some n) × IsOfPass s n (λ a. a.cut ≡ true) }
+    ensures cut { (s : RingState T) (k : Keeps s) (n : ℕ) (v : View T) → IsPassOf s n v
+        → v.account.cut ≡ true → IsCut s × (k.history.cutter ≡ Some n) }
+    ensures new { (s : RingState T) (k : Keeps s) → s.views ≡ new_hub ∷ []
+        → (drawn_in s ≡ 0) × (IsCut s → ⊥) }
+{}
+
+/// Between any two steps: if a receiver sleeps without a token, no more values wait than there are tokens given and debts
+/// owed: looks, wakes, and what closers owe. And if no more will be drawn, a closer still owes tokens. Whoever owes or is
+/// in the list is a pass that is out.
+pub fn no_wake_up_is_lost<T>()
+    ensures owed { (s : RingState T) (k : Keeps s) → 0 < total sleeping s.views
+        → claimed_in s < drawn_in s → 0 < k.tokens + total owed s.views }
+    ensures enough { (s : RingState T) (k : Keeps s) → k.tokens < total sleeping s.views
+        → drawn_in s ≤ claimed_in s + (k.tokens + total owed s.views) }
+    ensures over { (s : RingState T) (k : Keeps s) → k.tokens < total sleeping s.views
+        → IsCut s → 0 < total closing s.views }
+    ensures debtor { (s : RingState T) (k : Keeps s) (n : ℕ) (v : View T) → IsViewOf s n v
+        → 0 < owed v + listed v → v.role ≡ Member }
+{}

@@ -1,0 +1,88 @@
+//! A ring, its hub and its passes.
+ghost use Rattle.std.specs.Prelude.{[], IfOk, ◌+◌, ◌<◌, ◌≡◌};
+ghost use Rattle.mb_ring.specs.{IsFree, Issuer, blank, hub_view, issued, new_hub, took_back, view_in};
+
+use crate::rule::{Passes, RingRule};
+use crate::view::View;
+use atomic_table::{Seat, Table};
+use std::alloc::{AllocError, Allocator, Global};
+
+/// A ring of slots. Senders put values in, in one order, and receivers take them from the front.
+#[derive(Drop)]
+pub struct Ring<T: Drop, A: Allocator + Drop = Global> {
+    pub(crate) table: Table<Option<T>, View<T>, (), RingRule, A>,
+    pub(crate) size: u64,
+    ghost sized: { size ≡ table.shared.table_id.slots },
+    ghost wide: { table.shared.table_id.words ≡ size + 3 },
+    ghost some: { 0 < size },
+    ghost small: { size < 4294967296 },
+}
+
+/// What one thread sends and receives with. It has no bytes. It cannot be dropped: the hub takes it back, or it rests,
+/// and it owes nothing then.
+pub struct Pass<T> {
+    pub(crate) seat: Seat<Option<T>, View<T>>,
+}
+
+/// Issues passes, and takes them back with what they did. It has no bytes.
+#[derive(Drop)]
+pub struct Hub<T> {
+    pub(crate) seat: Seat<Option<T>, View<T>>,
+}
+
+impl<T: Drop, A: Allocator + Clone + Drop> Ring<T, A> {
+    /// A ring of this many slots, at least 1, and its hub. All memory that it will ever need is reserved here. The error
+    /// is [`AllocError`] if the allocator refuses a part of it.
+    pub fn new(alloc: A, size: u32) -> Result<(Ring<T, A>, Hub<T>), AllocError>
+        requires some { 0 < size }
+        ensures size { IfOk result (λ r. r.0.size ≡ size) }
+        ensures ring { IfOk result (λ r. r.1.seat.table_id ≡ r.0.table.shared.table_id) }
+        ensures hub { IfOk result (λ r. hub_view r.1 ≡ new_hub) }
+    {
+        let words = vec![in alloc.clone()?; 0u64; size as usize + 3]?;
+        let (table, seat) = Table::vacant(alloc, words.as_slice(), size as usize, &())?;
+        Ok((
+            Ring {
+                table,
+                size: size as u64,
+            },
+            Hub { seat },
+        ))
+    }
+}
+
+impl<T: Drop, A: Allocator + Drop> Ring<T, A> {
+    /// How many slots the ring has.
+    pub fn size(&self) -> u64
+        ensures { result ≡ self.now.size }
+    {
+        self.size
+    }
+
+    /// A pass that did nothing.
+    pub fn issue(&self, hub: &mut Hub<T>) -> Pass<T>
+        requires ring { hub.old.seat.table_id ≡ self.now.table.shared.table_id }
+        requires hub { (hub_view hub.old).role ≡ Issuer }
+        ensures ring { hub.new.seat.table_id ≡ hub.old.seat.table_id }
+        ensures hub { hub_view hub.new ≡ issued (hub_view hub.old) }
+        ensures pass { (result.seat.table_id ≡ hub.old.seat.table_id) × (view_in result ≡ blank)
+            × IsFree result }
+    {
+        Pass {
+            seat: self.table.shared.split_seat::<Passes>(&mut hub.seat),
+        }
+    }
+
+    /// Takes back a pass that owes nothing. The hub then has what it sent and received.
+    pub fn take_back(&self, hub: &mut Hub<T>, pass: Pass<T>)
+        requires ring { (hub.old.seat.table_id ≡ self.now.table.shared.table_id)
+            × (pass.seat.table_id ≡ self.now.table.shared.table_id) }
+        requires hub { (hub_view hub.old).role ≡ Issuer }
+        requires free { IsFree pass }
+        ensures ring { hub.new.seat.table_id ≡ hub.old.seat.table_id }
+        ensures hub { hub_view hub.new ≡ took_back (hub_view hub.old) (view_in pass) }
+    {
+        let Pass { seat } = pass;
+        self.table.shared.join_seat::<Passes>(&mut hub.seat, seat);
+    }
+}

@@ -1,0 +1,37 @@
+//! What a pass or the hub of a ring knows. No value of these types is made: they exist in proofs alone.
+use mb_segment::{Account, Duty, Half, Known, Role};
+use std::collections::LinkedList;
+
+/// What a pass saw of the words. It stays true.
+pub struct Sight {
+    /// As many positions as this are claimed.
+    pub low: u64,
+    /// As many positions as this are drawn.
+    pub top: u64,
+    /// The slot of this position was free for it.
+    pub room: Option<u64>,
+    /// This position was marked. It is the one seen marked last.
+    pub ripe: Option<u64>,
+    /// The ring is cut.
+    pub cut: bool,
+    /// At a moment at which as many positions as this were drawn, all of them were claimed.
+    pub empty: u64,
+    /// At a moment at which as many positions as this were claimed, as many values waited as there are slots.
+    pub full: Option<u64>,
+}
+
+/// What the pass or the hub did, has begun, owes and saw.
+pub struct View<T> {
+    pub role: Role,
+    pub account: Account<T>,
+    pub known: Known,
+    pub half: Half<T>,
+    /// What it owes, and how often it stands in the list of those that wait for a value. `closing`: it cut the ring.
+    pub duty: Duty,
+    pub sight: Sight,
+    /// It was told that no value can come any more.
+    pub over: bool,
+    /// Of the hub: how many passes are out, and what those that came back had done, the latest first.
+    pub out: u64,
+    pub ends: LinkedList<Account<T>>,
+}

@@ -1,0 +1,252 @@
+//! Each atomic step on the numbers drawn and claimed, and on the words of the slots.
+ghost use Rattle.std.specs.Prelude.{List, None, Option, Some, [], true, ℕ, ◌%◌, ◌*◌, ◌+◌, ◌<◌, ◌∷◌, ◌≡◌, ◌≢◌, ◌≤◌};
+ghost use Rattle.mb_ring.specs.{Becomes, IsStill, MaySend, MayTake, Member, Nothing, SawAllGot, SawAllTaken, did_cut, done};
+ghost use Rattle.mb_ring.specs.{drew, falls_asleep, held_by, looked, marked_to, owes_all, owes_wake, sees_cut, sees_drawn};
+ghost use Rattle.mb_ring.specs.{sees_empty, sees_full, sees_mark, sees_room, sees_taken, told, took, view_in, with_duty};
+
+use crate::effects::{Done, FallsAsleep, Looked};
+use crate::ring::{Pass, Ring};
+use crate::rule::{
+    Asks, Claims, Counts, Cuts, Draws, Looks, Position, SeesCut, SeesMark, SeesRoom, SeesTaken,
+    Value,
+};
+use std::alloc::Allocator;
+
+/// The words: how many positions are drawn, with the top bit once the ring is cut, and how many are claimed.
+const DRAWN: usize = 0;
+
+const TAKEN: usize = 1;
+
+/// The bit of the number drawn that says that the ring is cut.
+pub(crate) const CUT: u64 = 9223372036854775808;
+
+/// As many positions as this may be drawn.
+pub(crate) const MOST: u64 = 4611686018427387904;
+
+/// The word of a slot.
+pub(crate) fn word_of(slot: u64) -> usize
+    requires { slot < 4294967296 }
+    ensures { result ≡ slot + 3 }
+{
+    slot as usize + 3
+}
+
+impl<T: Drop, A: Allocator + Drop> Ring<T, A> {
+    /// The slot of a position.
+    pub(crate) fn slot_of(&self, at: u64) -> u64
+        ensures slot { result ≡ at % self.now.size }
+        ensures within { result < self.now.size }
+        ensures less { result ≤ at }
+    {
+        at % self.size
+    }
+
+    // ---- draws
+    /// Looks how many positions are drawn, before a draw.
+    pub(crate) fn load_to_draw(&self, pass: &mut Pass<T>) -> u64
+        requires ring { pass.old.seat.table_id ≡ self.now.table.shared.table_id }
+        ensures pass { IsStill pass.old pass.new }
+        ensures cut { 9223372036854775808 ≤ result
+            → Becomes pass.old pass.new (sees_cut (view_in pass.old)) }
+        ensures open { result < 9223372036854775808
+            → Becomes pass.old pass.new (sees_drawn result (view_in pass.old)) }
+        ensures told { (view_in pass.old).sight.cut ≡ true → 9223372036854775808 ≤ result }
+    {
+        self.table.shared.load::<Asks>(&mut pass.seat, DRAWN)
+    }
+
+    /// Looks whether the slot is free for this position.
+    pub(crate) fn load_room<P: Position>(&self, pass: &mut Pass<T>, at: u64, slot: u64) -> u64
+        requires ring { pass.old.seat.table_id ≡ self.now.table.shared.table_id }
+        requires picked { P.position ≡ at }
+        requires slot { slot ≡ at % self.now.size }
+        requires within { slot < self.now.size }
+        ensures pass { IsStill pass.old pass.new }
+        ensures free { 2 * at ≤ result + 2 * slot
+            → Becomes pass.old pass.new (sees_room at (view_in pass.old)) }
+        ensures busy { result + 2 * slot < 2 * at → Becomes pass.old pass.new (view_in pass.old) }
+    {
+        self.table
+            .shared
+            .load::<SeesRoom<P>>(&mut pass.seat, word_of(slot))
+    }
+
+    /// Looks how many positions are claimed, after a look how many are drawn.
+    pub(crate) fn load_count(&self, pass: &mut Pass<T>) -> u64
+        requires ring { pass.old.seat.table_id ≡ self.now.table.shared.table_id }
+        ensures pass { IsStill pass.old pass.new }
+        ensures full { result + self.now.size ≤ (view_in pass.old).sight.top
+            → Becomes pass.old pass.new (sees_full result (view_in pass.old))
+            × SawAllGot (view_in pass.new) }
+        ensures room { (view_in pass.old).sight.top < result + self.now.size
+            → Becomes pass.old pass.new (view_in pass.old) }
+        ensures most { result ≤ 4611686018427387904 }
+    {
+        self.table.shared.load::<Counts>(&mut pass.seat, TAKEN)
+    }
+
+    /// Draws the position, if it is still the next one. Its slot is then out with the pass.
+    pub(crate) fn draw_next<X: Value<T>>(
+        &self,
+        pass: &mut Pass<T>,
+        at: u64,
+        new: u64,
+        value: &T,
+    ) -> u64
+        requires ring { pass.old.seat.table_id ≡ self.now.table.shared.table_id }
+        requires picked { X.value ≡ Some value.now }
+        requires member { (view_in pass.old).role ≡ Member }
+        requires idle { (view_in pass.old).half ≡ Nothing }
+        requires open { (view_in pass.old).sight.room ≡ Some at }
+        requires most { at < 4611686018427387904 }
+        requires new { new ≡ at + 1 }
+        ensures pass { IsStill pass.old pass.new }
+        ensures drawn { result ≡ at → (view_in pass.new
+            ≡ with_duty owes_wake (drew at value.now (view_in pass.old)))
+            × (held_by pass.new ≡ (at % self.now.size, None) ∷ held_by pass.old)
+            × MaySend (view_in pass.old) }
+        ensures missed { result ≢ at → Becomes pass.old pass.new (view_in pass.old) }
+    {
+        let _ = value;
+        self.table
+            .shared
+            .compare_exchange::<Draws<X>>(&mut pass.seat, DRAWN, at, new)
+    }
+
+    /// Looks whether the ring is cut.
+    pub(crate) fn load_to_cut(&self, pass: &mut Pass<T>) -> u64
+        requires ring { pass.old.seat.table_id ≡ self.now.table.shared.table_id }
+        ensures pass { IsStill pass.old pass.new }
+        ensures cut { 9223372036854775808 ≤ result
+            → Becomes pass.old pass.new (sees_cut (view_in pass.old)) }
+        ensures open { result < 9223372036854775808
+            → Becomes pass.old pass.new (view_in pass.old) }
+    {
+        self.table.shared.load::<SeesCut>(&mut pass.seat, DRAWN)
+    }
+
+    /// Cuts the ring, if as many positions are drawn as were seen.
+    pub(crate) fn cut_from(&self, pass: &mut Pass<T>, seen: u64, new: u64) -> u64
+        requires ring { pass.old.seat.table_id ≡ self.now.table.shared.table_id }
+        requires member { (view_in pass.old).role ≡ Member }
+        requires open { seen < 9223372036854775808 }
+        requires new { new ≡ seen + 9223372036854775808 }
+        ensures pass { IsStill pass.old pass.new }
+        ensures cut { result ≡ seen
+            → Becomes pass.old pass.new (with_duty owes_all (did_cut (view_in pass.old))) }
+        ensures missed { result ≢ seen → Becomes pass.old pass.new (view_in pass.old) }
+    {
+        self.table
+            .shared
+            .compare_exchange::<Cuts>(&mut pass.seat, DRAWN, seen, new)
+    }
+
+    // ---- claims
+    /// Looks how many positions are claimed.
+    pub(crate) fn load_taken(&self, pass: &mut Pass<T>) -> u64
+        requires ring { pass.old.seat.table_id ≡ self.now.table.shared.table_id }
+        ensures pass { IsStill pass.old pass.new }
+        ensures low { Becomes pass.old pass.new (sees_taken result (view_in pass.old)) }
+        ensures mark { marked_to (view_in pass.old) ≤ result + 1 }
+        ensures most { result ≤ 4611686018427387904 }
+    {
+        self.table.shared.load::<SeesTaken>(&mut pass.seat, TAKEN)
+    }
+
+    /// Looks whether the position is marked. It is not above the number claimed that the pass loaded.
+    pub(crate) fn load_mark<P: Position>(&self, pass: &mut Pass<T>, at: u64, slot: u64) -> u64
+        requires ring { pass.old.seat.table_id ≡ self.now.table.shared.table_id }
+        requires picked { P.position ≡ at }
+        requires slot { slot ≡ at % self.now.size }
+        requires within { slot < self.now.size }
+        requires low { at ≤ (view_in pass.old).sight.low }
+        ensures pass { IsStill pass.old pass.new }
+        ensures marked { 2 * at < result + 2 * slot
+            → Becomes pass.old pass.new (sees_mark at (view_in pass.old)) }
+        ensures unmarked { result + 2 * slot ≤ 2 * at
+            → Becomes pass.old pass.new (view_in pass.old) }
+    {
+        self.table
+            .shared
+            .load::<SeesMark<P>>(&mut pass.seat, word_of(slot))
+    }
+
+    /// Looks how many positions are drawn, after a look how many are claimed.
+    pub(crate) fn load_drawn(&self, pass: &mut Pass<T>) -> u64
+        requires ring { pass.old.seat.table_id ≡ self.now.table.shared.table_id }
+        ensures pass { IsStill pass.old pass.new }
+        ensures some { (view_in pass.old).sight.low < result % 9223372036854775808
+            → Becomes pass.old pass.new (view_in pass.old) }
+        ensures empty { result % 9223372036854775808 ≤ (view_in pass.old).sight.low
+            → result < 9223372036854775808
+            → Becomes pass.old pass.new (sees_empty result (with_duty looked (view_in pass.old)))
+            × SawAllTaken (view_in pass.new) }
+        ensures over { result % 9223372036854775808 ≤ (view_in pass.old).sight.low
+            → 9223372036854775808 ≤ result
+            → Becomes pass.old pass.new (told (with_duty looked (view_in pass.old))) }
+    {
+        self.table
+            .shared
+            .load::<Looks<Looked, Looked>>(&mut pass.seat, DRAWN)
+    }
+
+    /// The same for one in the list: if no value is there yet, it sleeps from then on.
+    pub(crate) fn load_drawn_listed(&self, pass: &mut Pass<T>) -> u64
+        requires ring { pass.old.seat.table_id ≡ self.now.table.shared.table_id }
+        requires fresh { 0 < (view_in pass.old).duty.fresh }
+        ensures pass { IsStill pass.old pass.new }
+        ensures some { (view_in pass.old).sight.low < result % 9223372036854775808
+            → Becomes pass.old pass.new (view_in pass.old) }
+        ensures empty { result % 9223372036854775808 ≤ (view_in pass.old).sight.low
+            → result < 9223372036854775808
+            → Becomes pass.old pass.new
+            (sees_empty result (with_duty falls_asleep (view_in pass.old)))
+            × SawAllTaken (view_in pass.new) }
+        ensures over { result % 9223372036854775808 ≤ (view_in pass.old).sight.low
+            → 9223372036854775808 ≤ result
+            → Becomes pass.old pass.new (told (with_duty done (view_in pass.old))) }
+    {
+        self.table
+            .shared
+            .load::<Looks<FallsAsleep, Done>>(&mut pass.seat, DRAWN)
+    }
+
+    /// Claims the position, if it is still the first that waits. Its slot is then out with the pass.
+    pub(crate) fn claim_from(&self, pass: &mut Pass<T>, at: u64, new: u64) -> u64
+        requires ring { pass.old.seat.table_id ≡ self.now.table.shared.table_id }
+        requires member { (view_in pass.old).role ≡ Member }
+        requires idle { (view_in pass.old).half ≡ Nothing }
+        requires ripe { (view_in pass.old).sight.ripe ≡ Some at }
+        requires new { new ≡ at + 1 }
+        ensures pass { IsStill pass.old pass.new }
+        ensures claimed { result ≡ at → (x : T)
+            × (view_in pass.new ≡ with_duty looked (took at x (view_in pass.old)))
+            × (held_by pass.new ≡ (at % self.now.size, Some x) ∷ held_by pass.old)
+            × MayTake (view_in pass.old) }
+        ensures missed { result ≢ at → Becomes pass.old pass.new (view_in pass.old) }
+    {
+        self.table
+            .shared
+            .compare_exchange::<Claims<Looked>>(&mut pass.seat, TAKEN, at, new)
+    }
+
+    /// The same for one in the list, which is then about to leave.
+    pub(crate) fn claim_listed_from(&self, pass: &mut Pass<T>, at: u64, new: u64) -> u64
+        requires ring { pass.old.seat.table_id ≡ self.now.table.shared.table_id }
+        requires member { (view_in pass.old).role ≡ Member }
+        requires idle { (view_in pass.old).half ≡ Nothing }
+        requires fresh { 0 < (view_in pass.old).duty.fresh }
+        requires ripe { (view_in pass.old).sight.ripe ≡ Some at }
+        requires new { new ≡ at + 1 }
+        ensures pass { IsStill pass.old pass.new }
+        ensures claimed { result ≡ at → (x : T)
+            × (view_in pass.new ≡ with_duty done (took at x (view_in pass.old)))
+            × (held_by pass.new ≡ (at % self.now.size, Some x) ∷ held_by pass.old)
+            × MayTake (view_in pass.old) }
+        ensures missed { result ≢ at → Becomes pass.old pass.new (view_in pass.old) }
+    {
+        self.table
+            .shared
+            .compare_exchange::<Claims<Done>>(&mut pass.seat, TAKEN, at, new)
+    }
+}
