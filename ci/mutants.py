@@ -192,6 +192,9 @@ def try_crate(kit, crate, mutants, jobs):
 
 
 def main(words):
+    if unknown := [it for it in words if it.startswith("-") and it not in ("--proved", "--texts")]:
+        print(f"{' '.join(unknown)}: there is no such option\n\n{__doc__}", end="", file=sys.stderr)
+        return 2
     found, wrong = edits()
     for path, why in wrong.items():
         print(f"{path}: BAD EDIT: {why}")
