@@ -190,24 +190,27 @@ fn the_last_sender_wakes_those_that_sleep(rt: HostRuntime) -> Result<(), Fail> {
 
 #[test]
 fn a_receiver_closes_and_gets_what_is_left(rt: HostRuntime) -> Result<(), Fail> {
-    let (channel, mut sender, mut receiver) = Channel::<u64>::new(rt.alloc())?;
-    for value in 0..70 {
-        drop(channel.send(&rt, &mut sender, value));
-    }
+    let (channel, sender, mut receiver) = Channel::<u64>::new(rt.alloc())?;
+    let mut sender = feed(&rt, &channel, sender, 70);
     let closed = channel.close_by_receiver(&rt, &mut receiver);
     let refused = channel.send(&rt, &mut sender, 70);
-    let mut sum: u64 = 0;
-    for _ in 0..70 {
-        if let Ok(value) = channel.receive(&rt, &mut receiver) {
-            sum = sum.wrapping_add(value);
-        }
-    }
-    let none = channel.receive(&rt, &mut receiver);
+    let (count, sum, mut receiver) = drain(&rt, &channel, receiver);
     let again = channel.try_receive(&mut receiver);
-    assert!(rt; closed);
+    assert!(rt; closed && count == 70 && sum == 2415);
     assert!(rt; matches!(&refused, Err(e) if e.value == 70 && e.why == Refused::Closed));
-    assert!(rt; sum == 2415);
-    assert!(rt; matches!(&none, Err(Refused::Closed)));
     assert!(rt; matches!(&again, Err(Refused::Closed)));
+    Ok(())
+}
+
+#[test]
+fn what_was_left_at_the_end_comes_out(rt: HostRuntime) -> Result<(), Fail> {
+    let (channel, mut sender, mut receiver) = Channel::<u64>::new(rt.alloc())?;
+    drop(channel.send(&rt, &mut sender, 1));
+    drop(channel.send(&rt, &mut sender, 2));
+    channel.close(&rt, &mut sender);
+    channel.give_sender(&rt, &mut receiver, sender);
+    let ending = channel.end(&rt, receiver).expect(&rt, "all are back");
+    let mut rest = ending.finish().ok().expect(&rt, "nobody is inside");
+    assert!(rt; rest.next() == Some(1) && rest.next() == Some(2) && rest.next().is_none());
     Ok(())
 }

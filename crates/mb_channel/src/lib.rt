@@ -4,6 +4,7 @@
 //!   [`Channel::another_receiver`] make further ends, which can be moved to threads.
 //! - [`Channel::send`] and [`Channel::receive`] wait, and [`Channel::receive_by`] waits until a deadline.
 //!   [`Channel::try_receive`] never waits.
+//! - [`Channel::close`] closes the channel. So does the end of the last sender.
 //! - [`Channel::give_sender`] and [`Channel::give_receiver`] take an end back. [`Channel::end`] ends the channel by its
 //!   last one.
 //!
