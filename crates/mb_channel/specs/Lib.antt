@@ -9,6 +9,8 @@ pub mod Lives
 pub mod LifeSamples
 pub mod Inside
 pub mod Ends
+pub mod Owing
+pub mod Work
 pub mod Told
 pub mod Receives
 pub mod Rests

@@ -71,11 +71,7 @@ impl<T: Drop> Channel<T> {
         match self.list.come(&mut end.chair, at, takes) {
             Came::Here(segment, pass) => {
                 let pass = pass.rest();
-                end.inside = Some(Inside {
-                    segment,
-                    pass,
-                    over: false,
-                });
+                end.inside = Some(Inside { segment, pass });
                 Ok(())
             }
             Came::Gone(first) => {
@@ -103,23 +99,16 @@ impl<T: Drop> Channel<T> {
         let Some(inside) = end.inside.take() else {
             return true;
         };
-        let Inside {
-            segment,
-            pass,
-            over,
-        } = inside;
-        match self.list.leave(&mut end.chair, at, pass.pass(), over) {
+        let Inside { segment, pass } = inside;
+        match self.list.leave(&mut end.chair, at, pass.pass(), end.over) {
             Ok(_) => {
                 end.at = at + 1;
+                end.over = false;
                 true
             }
             Err(pass) => {
                 let pass = pass.rest();
-                end.inside = Some(Inside {
-                    segment,
-                    pass,
-                    over,
-                });
+                end.inside = Some(Inside { segment, pass });
                 false
             }
         }
@@ -127,6 +116,8 @@ impl<T: Drop> Channel<T> {
 
     /// Goes on: leaves the segment where the end is, or comes to the next one. It is a try, which may change nothing if
     /// the lock is taken.
+    #[cold]
+    #[inline(never)]
     pub(crate) fn go_on(&self, end: &mut End<T>, takes: bool) -> Result<(), Refused>
         requires channel { IsEndOf self.now end.old }
         requires side { takes ≡ true → (view_of end.old).takes ≡ true }

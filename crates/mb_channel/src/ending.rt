@@ -30,6 +30,7 @@ impl<T: Drop> Channel<T> {
             at: _,
             rights,
             inside: _,
+            over: _,
         } = self.outside(rt, end);
         let Channel { list, alloc } = self;
         let homes = list.end(chair, rights)?;

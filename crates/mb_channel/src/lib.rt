@@ -11,6 +11,8 @@
 #![tactic(auto)]
 
 mod answers;
+mod attempt;
+mod busy;
 mod channel;
 #[cfg(test)]
 mod closing_tests;

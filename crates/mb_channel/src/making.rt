@@ -25,6 +25,7 @@ pub(crate) fn end_at<T: Drop>(chair: Chair<T>, at: usize) -> End<T>
         at,
         rights: 1,
         inside: None,
+        over: false,
     }
 }
 
@@ -177,6 +178,7 @@ impl<T: Drop> Channel<T> {
             at: _,
             rights,
             inside: _,
+            over: _,
         } = self.outside(rt, other);
         self.list.give_back(&mut end.chair, chair);
         end.rights = end.rights.saturating_add(rights);

@@ -16,6 +16,7 @@ const TRIES: u32 = 4;
 
 impl<T: Drop> Channel<T> {
     /// Receives the next value, and sleeps until there is one.
+    #[inline(always)]
     pub fn receive<R: Wait>(&self, rt: &R, receiver: &mut Receiver<T>) -> Result<T, Refused>
         requires channel { IsEndOf self.now receiver.old.end }
         ensures end { IsSame receiver.old.end receiver.new.end }

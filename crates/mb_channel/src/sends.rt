@@ -16,6 +16,7 @@ pub struct NotSent<T> {
 
 impl<T: Drop> Channel<T> {
     /// Sends a value, behind all that the sender sent before, and wakes a receiver for it. The error gives it back.
+    #[inline(always)]
     pub fn send<R: Wait>(&self, rt: &R, sender: &mut Sender<T>, value: T) -> Result<(), NotSent<T>>
         requires channel { IsEndOf self.now sender.old.end }
         ensures end { IsSame sender.old.end sender.new.end }
