@@ -11,6 +11,7 @@ pub mod Inside
 pub mod Ends
 pub mod Owing
 pub mod Work
+pub mod Standing
 pub mod Told
 pub mod Receives
 pub mod Rests

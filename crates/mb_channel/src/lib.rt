@@ -16,6 +16,7 @@ mod busy;
 mod channel;
 #[cfg(test)]
 mod closing_tests;
+mod debtor;
 mod end;
 mod ending;
 mod home;
@@ -34,6 +35,7 @@ mod sends;
 #[cfg(test)]
 mod tests;
 mod tried;
+mod try_sends;
 mod view;
 mod visits;
 
@@ -44,4 +46,5 @@ pub use home::{Home, Homes, Shared};
 pub use rest::{Ending, Rest};
 pub use sends::NotSent;
 pub use tried::Tried;
+pub use try_sends::{Owing, Sending};
 pub use view::{Knows, Past, Visit};

@@ -1,6 +1,6 @@
 //! The calls that receive.
 ghost use Rattle.std.specs.Prelude.{◌≡◌, ◌⊎◌, ◌++◌, ◌∷◌, [], false, is_some, IfNone, IfOk, IfSome, OnErr};
-ghost use Rattle.mb_channel.specs.Ends.{IsEndOf, IsSame, got_by, sent_by};
+ghost use Rattle.mb_channel.specs.Ends.{IsEndOf, IsOver, IsSame, got_by, sent_by};
 ghost use Rattle.mb_channel.specs.Receives.{OfTried, SawEmpty};
 
 use crate::channel::{Channel, Refused};
@@ -25,12 +25,30 @@ impl<T: Drop> Channel<T> {
         ensures none { OnErr result (got_by receiver.new.end ≡ got_by receiver.old.end) }
         ensures sent { sent_by receiver.new.end ≡ sent_by receiver.old.end }
     {
+        match receiver.end.receive(rt) {
+            Some(value) => Ok(value),
+            None => self.receive_further(rt, receiver),
+        }
+    }
+
+    /// The same from the next segment on.
+    #[cold]
+    #[inline(never)]
+    fn receive_further<R: Wait>(&self, rt: &R, receiver: &mut Receiver<T>) -> Result<T, Refused>
+        requires channel { IsEndOf self.now receiver.old.end }
+        requires over { IsOver receiver.old.end }
+        ensures end { IsSame receiver.old.end receiver.new.end }
+        ensures got { IfOk result (λ x. got_by receiver.new.end
+            ≡ got_by receiver.old.end ++ x ∷ []) }
+        ensures none { OnErr result (got_by receiver.new.end ≡ got_by receiver.old.end) }
+        ensures sent { sent_by receiver.new.end ≡ sent_by receiver.old.end }
+    {
         for _ in rt.forever() {
+            self.go_on(&mut receiver.end, true)?;
+            yield_now();
             if let Some(value) = receiver.end.receive(rt) {
                 return Ok(value);
             }
-            self.go_on(&mut receiver.end, true)?;
-            yield_now();
         }
         unreachable!()
     }

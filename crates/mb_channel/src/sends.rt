@@ -26,16 +26,39 @@ impl<T: Drop> Channel<T> {
             × (sent_by sender.new.end ≡ sent_by sender.old.end)) }
         ensures got { got_by sender.new.end ≡ got_by sender.old.end }
     {
+        match sender.end.send(rt, value) {
+            Ok(()) => Ok(()),
+            Err(value) => self.send_further(rt, sender, value),
+        }
+    }
+
+    /// The same from the next segment on.
+    #[cold]
+    #[inline(never)]
+    fn send_further<R: Wait>(
+        &self,
+        rt: &R,
+        sender: &mut Sender<T>,
+        value: T,
+    ) -> Result<(), NotSent<T>>
+        requires channel { IsEndOf self.now sender.old.end }
+        ensures end { IsSame sender.old.end sender.new.end }
+        ensures sent { OnOk result (sent_by sender.new.end
+            ≡ sent_by sender.old.end ++ value ∷ []) }
+        ensures back { IfErr result (λ e. (e.value ≡ value)
+            × (sent_by sender.new.end ≡ sent_by sender.old.end)) }
+        ensures got { got_by sender.new.end ≡ got_by sender.old.end }
+    {
         let mut value = value;
         for _ in rt.forever() {
-            match sender.end.send(rt, value) {
-                Ok(()) => return Ok(()),
-                Err(back) => value = back,
-            }
             if let Err(why) = self.go_on(&mut sender.end, false) {
                 return Err(NotSent { value, why });
             }
             yield_now();
+            match sender.end.send(rt, value) {
+                Ok(()) => return Ok(()),
+                Err(back) => value = back,
+            }
         }
         unreachable!()
     }

@@ -1,6 +1,6 @@
 use Rattle.std.proofs.Common.{◌≡◌}
 use Rattle.mb_channel.specs.Ends.{IsSame, got_by, sent_by}
-use Rattle.mb_channel.proofs.channel.Channel.send.Given as goal
+use Rattle.mb_channel.proofs.channel.Channel.send_further.Given as goal
 
 abbrev pub invariant-loop : goal.invariant-loop
 invariant-loop g l =
