@@ -12,6 +12,7 @@ pub mod Ends
 pub mod Owing
 pub mod Work
 pub mod Standing
+pub mod Polls
 pub mod Told
 pub mod Receives
 pub mod Rests

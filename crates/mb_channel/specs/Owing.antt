@@ -13,6 +13,10 @@ duty_of debt.Thread = no_duty
 duty_of debt.Token = owes_wake no_duty
 duty_of debt.Tokens = owes_all no_duty
 duty_of debt.Leave = record no_duty { leaving = 1 }
+duty_of debt.Unseen = record no_duty { leaving = 1; wakes = 1 }
+duty_of debt.Fresh = record no_duty { fresh = 1 }
+duty_of debt.Asleep = record no_duty { asleep = 1 }
+duty_of debt.Look = record no_duty { looks = 1 }
 
 -- the pass owes so much and no more, has nothing begun, and holds no slot
 abbrev pub Owes : {T : Type 0} → Debt → Pass T → Type 0

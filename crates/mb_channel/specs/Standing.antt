@@ -46,6 +46,12 @@ pub record OneSent {T : Type 0} (x : T) (v w : Standing T) : Type 0 where
   pub sent : w.sent ≡ v.sent ++ x ∷ []
   pub got : w.got ≡ v.got
 
+-- it received x
+pub record OneGot {T : Type 0} (x : T) (v w : Standing T) : Type 0 where
+  pub one : IsOne v w
+  pub sent : w.sent ≡ v.sent
+  pub got : w.got ≡ v.got ++ x ∷ []
+
 abbrev pub OfStep : {T : Type 0} → Step T → T → Standing T → Type 0
 OfStep (step.Sent e) x v = OneSent x v (stand_of e)
 OfStep (step.Owes d) x v = OneSent x v (stand_with d)

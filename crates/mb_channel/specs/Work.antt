@@ -1,10 +1,14 @@
 -- What an end has of its segment, at rest or with something owed, and what a step does to that.
-use Rattle.std.specs.Prelude.{◌≡◌, ◌++◌, ◌∷◌, [], Bool}
+use Rattle.std.specs.Prelude.{◌≡◌, ◌++◌, ◌∷◌, [], Bool, true}
+use Rattle.mb_segment.specs.Moves.{SawAllTaken}
 use Rattle.mb_channel.specs.Types.{Account, Arc, Global, Segment}
 use Rattle.mb_channel.specs.declared.attempt.Attempt.{Attempt}
 use Rattle.mb_channel.specs.declared.attempt.Attempt.TheVariants as attempt
 use Rattle.mb_channel.specs.declared.busy.Busy.{Busy}
+use Rattle.mb_channel.specs.declared.busy.Debt.TheVariants as owed
 use Rattle.mb_channel.specs.declared.inside.Inside.{Inside}
+use Rattle.mb_channel.specs.declared.heard.Heard.{Heard}
+use Rattle.mb_channel.specs.declared.heard.Heard.TheVariants as heard
 use Rattle.mb_channel.specs.Inside.{account_in, told_in, values}
 
 -- the segment, what the pass sent and received there, and whether it was told that no value can come any more
@@ -31,6 +35,40 @@ pub record HasSent {T : Type 0} (x : T) (v w : Work T) : Type 0 where
   pub sent : values w.account.sent ≡ values v.account.sent ++ x ∷ []
   pub got : w.account.got ≡ v.account.got
   pub told : w.told ≡ v.told
+
+-- it received x there, and sent nothing
+pub record HasGot {T : Type 0} (x : T) (v w : Work T) : Type 0 where
+  pub segment : w.segment ≡ v.segment
+  pub got : values w.account.got ≡ values v.account.got ++ x ∷ []
+  pub sent : w.account.sent ≡ v.account.sent
+  pub told : w.told ≡ v.told
+
+-- nothing was sent or received there, and it was told that no value can come any more
+pub record IsTold {T : Type 0} (v w : Work T) : Type 0 where
+  pub segment : w.segment ≡ v.segment
+  pub account : w.account ≡ v.account
+  pub told : w.told ≡ true
+
+-- it sleeps in the list of those that wait, so the law of sleep covers it
+abbrev pub Sleeps : {T : Type 0} → Busy T → Type 0
+Sleeps b = b.debt ≡ owed.Asleep
+
+-- all was claimed that it had sent or seen marked there
+abbrev pub SawNothing : {T : Type 0} → Busy T → Type 0
+SawNothing b = SawAllTaken b.pass.seat.me.0
+
+-- a value was received, it sleeps, nothing is known, or no value can come any more
+abbrev pub OfHeard : {T : Type 0} → Heard T → Work T → Busy T → Type 0
+OfHeard (heard.Value x) v b = HasGot x v (work_of b)
+OfHeard heard.Asleep v b = IsStill v (work_of b) × Sleeps b
+OfHeard heard.Again v b = IsStill v (work_of b)
+OfHeard heard.Over v b = IsTold v (work_of b)
+
+abbrev pub IfAsleep : {T : Type 0} → Heard T → Type 0 → Type 0
+IfAsleep (heard.Value x) p = Unit {0}
+IfAsleep heard.Asleep p = p
+IfAsleep heard.Again p = Unit {0}
+IfAsleep heard.Over p = Unit {0}
 
 -- a value was sent, sent with something owed, or not: since another was first, or since none can be sent there
 abbrev pub OfAttempt : {T : Type 0} → Attempt T → T → Work T → Type 0

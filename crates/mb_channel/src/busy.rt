@@ -20,6 +20,14 @@ pub enum Debt {
     Tokens,
     /// The end has to leave the list of those that wait.
     Leave,
+    /// A token has to be given to one that sleeps, if one does. Then the end has to leave the list.
+    Unseen,
+    /// The end is in the list, and has to look.
+    Fresh,
+    /// The end sleeps in the list.
+    Asleep,
+    /// The end took a token, and has to look.
+    Look,
 }
 
 /// A share of the segment, and a pass there that owes so much. It cannot be dropped.
@@ -70,7 +78,7 @@ impl<T: Drop> Busy<T> {
     }
 
     /// Tries to leave the list.
-    fn leave(&mut self)
+    pub(crate) fn leave(&mut self)
         requires listed { self.old.debt ≡ owed.Leave }
         ensures still { IsStill (work_of self.old) (work_of self.new) }
     {
@@ -81,7 +89,46 @@ impl<T: Drop> Busy<T> {
         }
     }
 
-    /// Tries to pay, with a few accesses. It tells whether a thread has to be woken now.
+    /// Tries to pay a token before it leaves the list.
+    fn give_unseen(&mut self) -> bool
+        requires unseen { self.old.debt ≡ owed.Unseen }
+        ensures still { IsStill (work_of self.old) (work_of self.new) }
+    {
+        match self.segment.wake(&mut self.pass) {
+            Wake::Nobody => {
+                self.debt = Debt::Leave;
+                false
+            }
+            Wake::One => {
+                self.debt = Debt::Leave;
+                true
+            }
+            Wake::Again => false,
+        }
+    }
+
+    /// One that has to look, or sleeps, owes something else in its place.
+    fn give_up(&mut self)
+        ensures still { IsStill (work_of self.old) (work_of self.new) }
+    {
+        match self.debt {
+            Debt::Fresh => {
+                self.segment.go_unseen(&mut self.pass);
+                self.debt = Debt::Unseen;
+            }
+            Debt::Asleep => {
+                self.segment.give_up(&mut self.pass);
+                self.debt = Debt::Leave;
+            }
+            Debt::Look => {
+                self.segment.hand_on(&mut self.pass);
+                self.debt = Debt::Token;
+            }
+            _ => {}
+        }
+    }
+
+    /// Tries to pay, with a few accesses. It tells whether a thread has to be woken now. One that sleeps stops to wait.
     pub(crate) fn pay_some(&mut self) -> bool
         ensures still { IsStill (work_of self.old) (work_of self.new) }
     {
@@ -95,6 +142,11 @@ impl<T: Drop> Busy<T> {
             Debt::Tokens => self.give_tokens(),
             Debt::Leave => {
                 self.leave();
+                false
+            }
+            Debt::Unseen => self.give_unseen(),
+            _ => {
+                self.give_up();
                 false
             }
         }

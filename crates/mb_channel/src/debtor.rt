@@ -107,7 +107,8 @@ impl<T: Drop> Debtor<T> {
 
     /// Pays all, and wakes the threads.
     pub(crate) fn pay<R: Wait>(self, rt: &R) -> End<T>
-        ensures { NoMore (stand_with self) (stand_of result) }
+        ensures still { NoMore (stand_with self) (stand_of result) }
+        ensures chair { result.chair ≡ self.chair }
     {
         let Debtor {
             chair,
@@ -125,41 +126,48 @@ impl<T: Drop> Debtor<T> {
         }
     }
 
-    /// Tries to pay, with a few accesses. It tells whether the caller has to wake a thread. The end comes back once it
-    /// owes nothing more.
-    pub(crate) fn pay_some(self) -> (bool, Result<End<T>, Debtor<T>>)
-        ensures paid { IfOk result.1 (λ e. NoMore (stand_with self) (stand_of e)) }
-        ensures owes { IfErr result.1 (λ d. NoMore (stand_with self) (stand_with d)) }
+    /// The end, if it owes nothing any more.
+    pub(crate) fn rest(self) -> Result<End<T>, Debtor<T>>
+        ensures rest { IfOk result (λ e. NoMore (stand_with self) (stand_of e)
+            × (e.chair ≡ self.chair)) }
+        ensures owes { IfErr result (λ d. NoMore (stand_with self) (stand_with d)
+            × (d.chair ≡ self.chair)) }
     {
         let Debtor {
             chair,
             at,
             rights,
-            mut busy,
+            busy,
             over,
         } = self;
-        let wakes = busy.pay_some();
         match busy.rest() {
-            Ok(inside) => (
-                wakes,
-                Ok(End {
-                    chair,
-                    at,
-                    rights,
-                    inside: Some(inside),
-                    over,
-                }),
-            ),
-            Err(busy) => (
-                wakes,
-                Err(Debtor {
-                    chair,
-                    at,
-                    rights,
-                    busy,
-                    over,
-                }),
-            ),
+            Ok(inside) => Ok(End {
+                chair,
+                at,
+                rights,
+                inside: Some(inside),
+                over,
+            }),
+            Err(busy) => Err(Debtor {
+                chair,
+                at,
+                rights,
+                busy,
+                over,
+            }),
         }
+    }
+
+    /// Tries to pay, with a few accesses. It tells whether the caller has to wake a thread. The end comes back once it
+    /// owes nothing more.
+    pub(crate) fn pay_some(self) -> (bool, Result<End<T>, Debtor<T>>)
+        ensures paid { IfOk result.1 (λ e. NoMore (stand_with self) (stand_of e)
+            × (e.chair ≡ self.chair)) }
+        ensures owes { IfErr result.1 (λ d. NoMore (stand_with self) (stand_with d)
+            × (d.chair ≡ self.chair)) }
+    {
+        let mut debtor = self;
+        let wakes = debtor.busy.pay_some();
+        (wakes, debtor.rest())
     }
 }
