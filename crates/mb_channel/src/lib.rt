@@ -12,21 +12,27 @@
 #![tactic(auto)]
 
 mod answers;
+mod attempt;
+mod busy;
 mod channel;
 #[cfg(test)]
 mod closing_tests;
 mod cutting;
+mod debtor;
 mod end;
 mod ending;
 mod giving;
+mod heard;
 mod home;
 pub mod home_samples;
 mod inside;
 pub mod laws;
 mod list;
+mod listening;
 mod making;
 mod parties;
 mod passes;
+mod polls;
 mod receives;
 mod rest;
 mod rule;
@@ -35,6 +41,7 @@ mod sends;
 #[cfg(test)]
 mod tests;
 mod tried;
+mod try_sends;
 mod view;
 mod visits;
 
@@ -42,7 +49,9 @@ pub use answers::{Appended, Came, Retired};
 pub use channel::{Channel, Refused};
 pub use end::{Receiver, Sender};
 pub use home::{Home, Homes, Shared};
+pub use polls::{Asleep, Leaving, Polled};
 pub use rest::{Ending, Rest};
 pub use sends::NotSent;
 pub use tried::Tried;
+pub use try_sends::{Owing, Sending};
 pub use view::{Knows, Past, Visit};
