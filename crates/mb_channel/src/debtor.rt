@@ -43,6 +43,9 @@ impl<T: Drop> End<T> {
     pub(crate) fn try_send(self, value: T) -> Step<T>
         ensures { OfStep result value (stand_of self) }
     {
+        if self.inside.is_none() {
+            return Step::Over(self, value);
+        }
         let End {
             chair,
             at,
@@ -50,53 +53,32 @@ impl<T: Drop> End<T> {
             inside,
             over,
         } = self;
-        let Some(inside) = inside else {
-            return Step::Over(
-                End {
+        let Some(inside) = inside else { unreachable!() };
+        let (inside, back) = match inside.try_send(value) {
+            Attempt::Sent(inside) => (inside, None),
+            Attempt::Again(inside, value) => (inside, Some((value, true))),
+            Attempt::Over(inside, value) => (inside, Some((value, false))),
+            Attempt::Owes(busy) => {
+                return Step::Owes(Debtor {
                     chair,
                     at,
                     rights,
-                    inside: None,
+                    busy,
                     over,
-                },
-                value,
-            );
+                });
+            }
         };
-        match inside.try_send(value) {
-            Attempt::Sent(inside) => Step::Sent(End {
-                chair,
-                at,
-                rights,
-                inside: Some(inside),
-                over,
-            }),
-            Attempt::Owes(busy) => Step::Owes(Debtor {
-                chair,
-                at,
-                rights,
-                busy,
-                over,
-            }),
-            Attempt::Again(inside, value) => Step::Again(
-                End {
-                    chair,
-                    at,
-                    rights,
-                    inside: Some(inside),
-                    over,
-                },
-                value,
-            ),
-            Attempt::Over(inside, value) => Step::Over(
-                End {
-                    chair,
-                    at,
-                    rights,
-                    inside: Some(inside),
-                    over,
-                },
-                value,
-            ),
+        let end = End {
+            chair,
+            at,
+            rights,
+            inside: Some(inside),
+            over,
+        };
+        match back {
+            None => Step::Sent(end),
+            Some((value, true)) => Step::Again(end, value),
+            Some((value, false)) => Step::Over(end, value),
         }
     }
 }

@@ -41,6 +41,8 @@ mod tried;
 mod try_sends;
 mod view;
 mod visits;
+#[cfg(test)]
+mod way_tests;
 
 pub use answers::{Appended, Came, Retired};
 pub use channel::{Channel, Refused};
