@@ -4,6 +4,8 @@
 //!   [`Channel::another_receiver`] make further ends, which can be moved to threads.
 //! - [`Channel::send`] and [`Channel::receive`] wait, and [`Channel::receive_by`] waits until a deadline.
 //!   [`Channel::try_receive`] never waits.
+//! - [`Channel::try_send`] and [`Channel::poll_receive`] never wait either, and leave it to the caller to wake and to
+//!   sleep. Whoever owes a wake is [`Owing`] or [`Leaving`], and whoever sleeps is [`Asleep`].
 //! - [`Channel::give_sender`] and [`Channel::give_receiver`] take an end back. [`Channel::end`] ends the channel by its
 //!   last one.
 //!
