@@ -5,6 +5,8 @@
 //! - [`Channel::send`] and [`Channel::receive`] wait, and [`Channel::receive_by`] waits until a deadline.
 //!   [`Channel::try_receive`] never waits.
 //! - [`Channel::close`] closes the channel. So does the end of the last sender.
+//! - [`Channel::try_send`] and [`Channel::poll_receive`] never wait either, and leave it to the caller to wake and to
+//!   sleep. Whoever owes a wake is [`Owing`] or [`Leaving`], and whoever sleeps is [`Asleep`].
 //! - [`Channel::give_sender`] and [`Channel::give_receiver`] take an end back. [`Channel::end`] ends the channel by its
 //!   last one.
 //!
@@ -44,6 +46,8 @@ mod tried;
 mod try_sends;
 mod view;
 mod visits;
+#[cfg(test)]
+mod way_tests;
 
 pub use answers::{Appended, Came, Retired};
 pub use channel::{Channel, Refused};

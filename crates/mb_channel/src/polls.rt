@@ -52,7 +52,7 @@ impl<T: Drop> Channel<T> {
     ghost use Rattle.mb_channel.specs.Standing.{stand_of};
 
     /// Tries to receive the next value. If none is there, the receiver enters the list of those that wait, and looks
-    /// again. It makes a few accesses, and sleeps not.
+    /// again. It makes a few accesses, and never waits itself.
     pub fn poll_receive(&self, receiver: Receiver<T>) -> Polled<T>
         requires channel { IsEndOf self.now receiver.end }
         ensures answer { OfPolled result (stand_of receiver.end) }
