@@ -4,6 +4,7 @@ pub mod Turns
 pub mod Totals
 pub mod Halves
 pub mod Kept
+pub mod Laps
 pub mod DrawMoves
 pub mod MarkMoves
 pub mod ClaimMoves
@@ -14,4 +15,3 @@ pub mod ListMoves
 pub mod PassMoves
 pub mod Places
 pub mod Endings
-pub mod Laps

@@ -1,11 +1,12 @@
 -- The loads keep the rule: of the number drawn and claimed, and of the words of slots.
-use Rattle.mb_ring.proofs.Base.{Allows, Bool, List, None, Option, Some, [], ap, arith, false, true, dec_le, dec_lt, dite, get_elem?, inl, inr, keeps, length, none, refl}
+use Rattle.mb_ring.proofs.Base.{Allows, Bool, List, None, Option, Some, [], ap, arith, false, true, dec_le, dec_lt, get_elem?, inl, inr, keeps, length, none, refl}
 use Rattle.mb_ring.proofs.Base.{slice_index, some, step, subst, suc, sym, ℕ, ⊎_elim, ◌%◌, ◌*◌, ◌+◌, ◌<◌, ◌∷◌, ◌≡◌, ◌≤◌}
 use Rattle.mb_segment.proofs.Base.{if◌then◌else◌, nat_eq}
 use Rattle.mb_segment.proofs.Spots.{all_length, below_by, nothing_left, same_some}
 use Rattle.mb_ring.specs.Vocabulary.{Below, Claim, Fits, Issuer, Keeps, Member, Role, SawAllGot, SawAllTaken, Sat, Spent, Spot, View}
 use Rattle.mb_ring.specs.Vocabulary.{all_entries, asking, counting, drawn, looking, mark_in, seeing_cut, seeing_mark, seeing_room}
 use Rattle.mb_ring.specs.Vocabulary.{seeing_taken, sees_cut, sees_drawn, sees_empty, sees_full, sees_mark, sees_room, sees_taken, spot, spots_to, taken, told, turn}
+use Rattle.mb_ring.proofs.Laps.{marked_drawn}
 use Rattle.mb_ring.proofs.Kept.{Goes, St, StaysIdle, at0, at1, loaded, refit, resized, sees, settled, sighted, stays, steps}
 use Rattle.mb_ring.specs.Vocabulary.{Duty, done, falls_asleep, free, listed, looked, no_duty, with_duty}
 
@@ -251,11 +252,7 @@ module _ {T : Type 0} where
       → drawn k.history ≤ r → SawAllTaken (sees_empty r v)
   all_below s k i v at r le = (
     sent (k.fits i v at) le v.role refl,
-    λ p e. let t = (k.fits i v at).sight.ripe p e in
-        dite (dec_lt p r) (λ lt. lt) (λ high.
-        let a = t.0 in let b = t.1 in let some_ = k.sized.2 in
-        absurd (⊎_elim (λ z. let l = z.0 in omega arith) (λ z. let l = z.1 in omega arith)
-        (k.undrawn p (omega arith) (omega arith)))),
+    λ p e. let lt = marked_drawn s k i v at p e in omega arith,
   )
     where
       sent : Fits k.history k.size k.states k.cut k.hub k.roll i v → drawn k.history ≤ r → (a : Role) → v.role ≡ a
