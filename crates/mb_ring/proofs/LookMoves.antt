@@ -3,10 +3,10 @@ use Rattle.mb_ring.proofs.Base.{Allows, Bool, List, None, Option, Some, [], ap, 
 use Rattle.mb_ring.proofs.Base.{slice_index, some, step, subst, suc, sym, ℕ, ⊎_elim, ◌%◌, ◌*◌, ◌+◌, ◌<◌, ◌∷◌, ◌≡◌, ◌≤◌}
 use Rattle.mb_segment.proofs.Base.{if◌then◌else◌, nat_eq}
 use Rattle.mb_segment.proofs.Spots.{all_length, below_by, nothing_left, same_some}
-use Rattle.mb_ring.specs.Vocabulary.{Below, Claim, Fits, Issuer, Keeps, Member, Role, SawAllGot, SawAllTaken, Sat, Spent, Spot, View}
+use Rattle.mb_ring.specs.Vocabulary.{Below, Claim, Fits, Issuer, Keeps, KnowsCut, Member, Role, SawAllGot, SawAllTaken, Sat, Spent, Spot, View}
 use Rattle.mb_ring.specs.Vocabulary.{all_entries, asking, counting, drawn, looking, mark_in, seeing_cut, seeing_mark, seeing_room}
 use Rattle.mb_ring.specs.Vocabulary.{seeing_taken, sees_cut, sees_drawn, sees_empty, sees_full, sees_mark, sees_room, sees_taken, spot, spots_to, taken, told, turn}
-use Rattle.mb_ring.proofs.Laps.{marked_drawn}
+use Rattle.mb_ring.proofs.Laps.{later_lap, marked_drawn, turn_drawn}
 use Rattle.mb_ring.proofs.Kept.{Goes, St, StaysIdle, at0, at1, loaded, refit, resized, sees, settled, sighted, stays, steps}
 use Rattle.mb_ring.specs.Vocabulary.{Duty, done, falls_asleep, free, listed, looked, no_duty, with_duty}
 
@@ -48,7 +48,7 @@ module _ {T : Type 0} where
           cut_ = λ _. omega arith;
           empty = f.empty;
           full = f.full;
-        },
+        } (omega arith),
         (refl, refl),
       )
 
@@ -65,6 +65,10 @@ module _ {T : Type 0} where
       go s k at (no high) = let c = cut_seen i me s k at (omega arith) in
           (c.0, c.1, c.2, c.3, ((λ _. c.4), λ lt. absurd (high lt)))
 
+  -- a ring is cut once a pass was told so
+  known_cut : (s : St T) (k : Keeps s) (i : ℕ) (v : View T) → get_elem? s.views i ≡ some v → KnowsCut v → 0 < k.cut
+  known_cut s k i v at told_ = ⊎_elim (k.fits i v at).sight.cut_ (λ on. ((k.fits i v at).over on).0) told_
+
   pub asks : (slots i : ℕ) (me : Sat T) → Allows Keeps slots i me 0 (λ r. r) (asking (step slots 0 0 0 none) me)
   asks slots i me = steps slots i me 0 (λ r. r) (asking (step slots 0 0 0 none) me)
       (λ s k many at. go s k at (dec_lt (slice_index s.words 0) 9223372036854775808))
@@ -73,7 +77,7 @@ module _ {T : Type 0} where
           → Dec (slice_index s.words 0 < 9223372036854775808)
           → Goes s 0 i me (asking (step slots 0 0 0 none) me) (slice_index s.words 0)
       go s k at (yes low) =
-          let now_ = at0 s k in let f = (k.fits i me.0 at).sight in (
+          let now_ = at0 s k in let f = (k.fits i me.0 at).sight in let d = (k.fits i me.0 at).heard.0 in (
             sees_drawn (slice_index s.words 0) me.0,
             keeps,
             tt,
@@ -85,8 +89,12 @@ module _ {T : Type 0} where
               cut_ = f.cut_;
               empty = f.empty;
               full = f.full;
-            },
-            ((λ le. absurd (omega arith)), (λ _. (refl, refl)), λ on. let y = f.cut_ on in omega arith),
+            } (omega arith),
+            (
+              (λ le. absurd (omega arith)),
+              (λ _. ((refl, refl), omega arith)),
+              λ told_. absurd (let c = known_cut s k i me.0 at told_ in omega arith),
+            ),
           )
       go s k at (no high) = let c = cut_seen i me s k at (omega arith) in
           (c.0, c.1, c.2, c.3, ((λ _. c.4), (λ lt. absurd (high lt)), λ _. omega arith))
@@ -96,13 +104,13 @@ module _ {T : Type 0} where
       → Allows Keeps slots i me j (λ r. r) (seeing_room p (step slots j 0 0 none) me)
   sees_rooms slots i me j p is = steps slots i me j (λ r. r) (seeing_room p (step slots j 0 0 none) me)
       (λ s k₀ many at. let k = resized s k₀ slots many in
-      go s k at (word_at s k p j is) (dec_le (2 * p) (slice_index s.words j + 2 * (p % slots))))
+      go s k refl at (word_at s k p j is) (dec_le (2 * p) (slice_index s.words j + 2 * (p % slots))))
     where
-      go : (s : St T) (k : Keeps s) → get_elem? s.views i ≡ some me.0
+      go : (s : St T) (k : Keeps s) → k.size ≡ slots → get_elem? s.views i ≡ some me.0
           → slice_index s.words j + 2 * (p % slots) ≡ turn k.size k.states p
           → Dec (2 * p ≤ slice_index s.words j + 2 * (p % slots))
           → Goes s j i me (seeing_room p (step slots j 0 0 none) me) (slice_index s.words j)
-      go s k at word (yes free) =
+      go s k many at word (yes free) =
           let f = (k.fits i me.0 at).sight in (
             sees_room p me.0,
             keeps,
@@ -116,11 +124,20 @@ module _ {T : Type 0} where
               cut_ = f.cut_;
               empty = f.empty;
               full = f.full;
-            },
+            } (omega arith),
             ((λ _. (refl, refl)), λ lt. absurd (omega arith)),
           )
-      go s k at word (no busy) =
-          (me.0, keeps, tt, stays s k j i me.0 at me.1, ((λ le. absurd (busy le)), λ _. (refl, refl)))
+      go s k many at word (no busy) =
+          let top = (k.fits i me.0 at).sight.top in (
+            me.0,
+            keeps,
+            tt,
+            stays s k j i me.0 at me.1,
+            (
+              (λ le. absurd (busy le)),
+              λ _. ((refl, refl), λ le. let lap = later_lap s k p (omega arith) (omega arith) in omega arith),
+            ),
+          )
 
   pub sees_marks : (slots i : ℕ) (me : Sat T) (j p : ℕ) → j ≡ p % slots + 3 → p ≤ me.0.sight.low
       → Allows Keeps slots i me j (λ r. r) (seeing_mark p (step slots j 0 0 none) me)
@@ -133,7 +150,8 @@ module _ {T : Type 0} where
           → Dec (2 * p < slice_index s.words j + 2 * (p % slots))
           → Goes s j i me (seeing_mark p (step slots j 0 0 none) me) (slice_index s.words j)
       go s k at word (yes marked) =
-          let f = (k.fits i me.0 at).sight in let l = f.low in (
+          let f = (k.fits i me.0 at).sight in let l = f.low in let small = k.small in
+          let b = turn_drawn s k p (omega arith) (omega arith) in (
             sees_mark p me.0,
             keeps,
             tt,
@@ -147,11 +165,20 @@ module _ {T : Type 0} where
               cut_ = f.cut_;
               empty = f.empty;
               full = f.full;
-            },
-            ((λ _. (refl, refl)), λ le. absurd (omega arith)),
+            } (omega arith),
+            (
+              (λ _. ((refl, refl), omega arith)),
+              (λ le. absurd (omega arith)),
+              λ told_ le. absurd (let d = (k.fits i me.0 at).last told_.0 told_.1 in omega arith),
+            ),
           )
-      go s k at word (no unmarked) =
-          (me.0, keeps, tt, stays s k j i me.0 at me.1, ((λ lt. absurd (unmarked lt)), λ _. (refl, refl)))
+      go s k at word (no unmarked) = (
+        me.0,
+        keeps,
+        tt,
+        stays s k j i me.0 at me.1,
+        ((λ lt. absurd (unmarked lt)), (λ _. (refl, refl)), λ _ _. omega arith),
+      )
 
   -- ---- the number claimed
   pub sees_taken_at : (slots i : ℕ) (me : Sat T)
@@ -173,8 +200,13 @@ module _ {T : Type 0} where
           cut_ = f.cut_;
           empty = f.empty;
           full = f.full;
-        },
-        ((refl, refl), mark_below me.0.sight.ripe r (λ j e. let l = (f.ripe j e).0 in omega arith), omega arith),
+        } (let l = f.low in omega arith),
+        (
+          (refl, refl),
+          mark_below me.0.sight.ripe r (λ j e. let l = (f.ripe j e).0 in omega arith),
+          omega arith,
+          let l = (k.fits i me.0 at).heard.1 in omega arith,
+        ),
       ))
 
   -- all that a pass received is below the number claimed
@@ -222,20 +254,40 @@ module _ {T : Type 0} where
               cut_ = f.cut_;
               empty = f.empty;
               full = λ t e. let q : r ≡ t = same_some r t e in (omega arith, omega arith);
-            },
+            } (omega arith),
             (
               (λ _. ((refl, refl), all_got s k i me.0 at r (sym now_))),
               (λ lt. absurd (omega arith)),
               omega arith,
+              let a = (k.fits i me.0 at).heard.1 in omega arith,
+              let a = (k.fits i me.0 at).heard.0 in let w = k.within in omega arith,
             ),
           )
       go s k many at (no room) =
-          let now_ = at1 s k in let small = k.small in (
-            me.0,
+          let now_ = at1 s k in
+          let small = k.small in
+          let r = slice_index s.words 1 in
+          let f = (k.fits i me.0 at).sight in
+          let low_ = f.low in (
+            sees_taken r me.0,
             keeps,
             tt,
-            stays s k 1 i me.0 at me.1,
-            ((λ le. absurd (room le)), (λ _. (refl, refl)), omega arith),
+            sees s k 1 i me.0 at me.1 record me.0.sight { low = r } record {
+              low = omega arith;
+              top = f.top;
+              room = f.room;
+              ripe = f.ripe;
+              cut_ = f.cut_;
+              empty = f.empty;
+              full = f.full;
+            } (omega arith),
+            (
+              (λ le. absurd (room le)),
+              (λ _. (refl, refl)),
+              omega arith,
+              let a = (k.fits i me.0 at).heard.1 in omega arith,
+              let a = (k.fits i me.0 at).heard.0 in let w = k.within in omega arith,
+            ),
           )
 
   -- ---- the number drawn, after the number claimed
@@ -268,13 +320,30 @@ module _ {T : Type 0} where
       → Dec (slice_index s.words 0 % 9223372036854775808 ≤ me.0.sight.low)
       → Dec (slice_index s.words 0 < 9223372036854775808)
       → Goes s 0 i me (looking f g (step slots 0 0 0 none) me) (slice_index s.words 0)
-  looks_at f g slots i me lf lg sleeps s k at (no some_) open_ = (
-    me.0,
-    keeps,
-    tt,
-    stays s k 0 i me.0 at me.1,
-    ((λ _. (refl, refl)), (λ le _. absurd (some_ le)), λ le _. absurd (some_ le)),
-  )
+  looks_at f g slots i me lf lg sleeps s k at (no some_) open_ =
+      let r = slice_index s.words 0 % 9223372036854775808 in
+      let now_ = at0 s k in
+      let small = k.small in
+      let y = (k.fits i me.0 at).sight in (
+        sees_drawn r me.0,
+        keeps,
+        tt,
+        sees s k 0 i me.0 at me.1 record me.0.sight { top = r } record {
+          low = y.low;
+          top = omega arith;
+          room = y.room;
+          ripe = y.ripe;
+          cut_ = y.cut_;
+          empty = y.empty;
+          full = y.full;
+        } (omega arith),
+        (
+          (λ _. (refl, refl)),
+          (λ le _. absurd (some_ le)),
+          (λ le _. absurd (some_ le)),
+          λ told_. absurd (let d = (k.fits i me.0 at).last told_.0 told_.1 in some_ (omega arith)),
+        ),
+      )
   looks_at f g slots i me lf lg sleeps s k at (yes none_) (yes open_) =
       let r = slice_index s.words 0 in
       let w = sees_empty r (with_duty f me.0) in
@@ -301,12 +370,17 @@ module _ {T : Type 0} where
               cut_ = y.cut_;
               empty = omega arith;
               full = y.full;
-            })
+            } (omega arith))
             (λ L O C L' O' C' l' o c le q h. (inr (omega arith), inr (omega arith)))),
         (
           (λ lt. absurd (omega arith)),
-          (λ _ _. ((refl, refl), all_below s k i me.0 at r (omega arith))),
-          λ _ le. absurd (omega arith),
+          (λ _ _. (
+            (refl, refl),
+            all_below s k i me.0 at r (omega arith),
+            let d = (k.fits i me.0 at).heard.0 in omega arith,
+          )),
+          (λ _ le. absurd (omega arith)),
+          λ told_. absurd (let c = ((k.fits i me.0 at).over told_.1).0 in omega arith),
         ),
       )
   looks_at f g slots i me lf lg sleeps s k at (yes none_) (no cut) =
@@ -331,10 +405,16 @@ module _ {T : Type 0} where
           sight = fit.sight;
           heard = fit.heard;
           over = λ _. (omega arith, empty);
+          last = λ _ _. omega arith;
         }
             (λ L O C L' O' C' l' o c le q h. let e = lg.1 in
             (inr (omega arith), ⊎_elim (λ x. inl (omega arith)) (λ x. inr (omega arith)) h))),
-        ((λ lt. absurd (omega arith)), (λ _ lt. absurd (cut lt)), λ _ _. (refl, refl)),
+        (
+          (λ lt. absurd (omega arith)),
+          (λ _ lt. absurd (cut lt)),
+          (λ _ _. (refl, refl)),
+          λ _. (none_, omega arith),
+        ),
       )
 
   looks_as : (f g : Duty → Duty) (slots i : ℕ) (me : Sat T) → StaysListed f me.0 → StaysListed g me.0

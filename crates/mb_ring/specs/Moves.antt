@@ -1,8 +1,8 @@
 -- How a step changes a view.
-use Rattle.std.specs.Prelude.{None, Some, [], false, max, suc, true, ℕ, ◌+◌, ◌++◌, ◌-◌, ◌<◌, ◌∷◌, ◌≡◌}
+use Rattle.std.specs.Prelude.{None, Some, [], false, max, suc, true, ℕ, ◌+◌, ◌++◌, ◌-◌, ◌<◌, ◌∷◌, ◌≡◌, ◌⊎◌}
 use Rattle.mb_segment.specs.History.{spot}
 use Rattle.mb_segment.specs.Moves.{Below, mark_in, or}
-use Rattle.mb_ring.specs.Types.{Duty, Nothing, Reads, View, Writes}
+use Rattle.mb_ring.specs.Types.{Duty, Member, Nothing, Reads, View, Writes}
 use Rattle.mb_ring.specs.Passes.{blank, blind}
 
 -- it owes other things, and is in the list more or less often. What a step does to a duty is told for a segment
@@ -80,6 +80,14 @@ SawAllGot v = (t : ℕ) → v.sight.full ≡ Some t → Below t v.account.got
 -- it is told that no value can come any more
 abbrev pub told : {T : Type 0} → View T → View T
 told v = record v { over = true }
+
+-- it was told that the ring is cut, or that no value can come any more
+abbrev pub KnowsCut : {T : Type 0} → View T → Type 0
+KnowsCut v = (v.sight.cut ≡ true) ⊎ (v.over ≡ true)
+
+-- the view is a pass's, which was told that no value can come any more
+abbrev pub KnowsOver : {T : Type 0} → View T → Type 0
+KnowsOver v = (v.role ≡ Member) × (v.over ≡ true)
 
 -- what it was told rules out no claim, and no draw
 abbrev pub MayTake : {T : Type 0} → View T → Type 0

@@ -53,6 +53,8 @@ pub record Fits {T : Type 0} (h : History T) (n : ℕ) (states : List ℕ) (cut 
   pub sight : SightFits h n states cut v.sight
   pub heard : Heard h v
   pub over : v.over ≡ true → (0 < cut) × (h.rest ≡ [])
+  -- a pass that was told so has loaded how many positions are claimed for good
+  pub last : v.role ≡ Member → v.over ≡ true → drawn h ≤ v.sight.low
 
 pub record Keeps {T : Type 0} (s : State (Option T) (View T)) : Type 0 where
   pub history : History T

@@ -1,9 +1,8 @@
 //! The calls of senders.
-ghost use Rattle.std.specs.Prelude.{None, Some, [], true, ℕ, ◌%◌, ◌<◌, ◌∷◌, ◌≡◌, ◌≤◌};
-ghost use Rattle.mb_ring.specs.{Becomes, IsFree, IsStill, MaySend, Member, OfCut, OfDraw, OfWake, OfWakeAll, SawAllGot};
-ghost use Rattle.mb_ring.specs.{Writes, bare, did_cut, drew, ended, has_closed, has_woken, held_by, owes_all, owes_wake};
+ghost use Rattle.std.specs.Prelude.{None, Some, [], ℕ, ◌%◌, ◌+◌, ◌<◌, ◌∷◌, ◌≡◌, ◌≤◌};
+ghost use Rattle.mb_ring.specs.{Becomes, IsClosed, IsFree, IsStill, KnowsCut, MaySend, Member, OfCut, OfDraw, OfWake, OfWakeAll};
+ghost use Rattle.mb_ring.specs.{SawAllGot, Writes, bare, did_cut, drew, ended, has_closed, has_woken, held_by, owes_all, owes_wake};
 ghost use Rattle.mb_ring.specs.{sees_cut, sees_full, spot, view_in, with_duty};
-ghost use Rattle.mb_ring.specs.declared.answers.Draw.TheVariants.{Closed};
 
 use crate::answers::Draw;
 use crate::list::LISTED;
@@ -23,7 +22,7 @@ impl<T: Drop, A: Allocator + Drop> Ring<T, A> {
         requires ring { pass.old.seat.table_id ≡ self.now.table.shared.table_id }
         requires free { IsFree pass.old }
         ensures pass { IsStill pass.old pass.new }
-        ensures told { (view_in pass.old).sight.cut ≡ true → result ≡ Closed }
+        ensures told { KnowsCut (view_in pass.old) → IsClosed result }
         ensures answer { OfDraw result
             (λ at. (at < 4611686018427387904)
             × (held_by pass.new ≡ (at % self.now.size, None) ∷ [])
@@ -31,11 +30,17 @@ impl<T: Drop, A: Allocator + Drop> Ring<T, A> {
             ≡ bare (with_duty owes_wake (drew at value.now (view_in pass.old))))
             × MaySend (view_in pass.old))
             ((t : ℕ) × (bare (view_in pass.new) ≡ bare (sees_full t (view_in pass.old)))
-            × SawAllGot (view_in pass.new) × (held_by pass.new ≡ []))
+            × SawAllGot (view_in pass.new) × (held_by pass.new ≡ [])
+            × ((view_in pass.old).known.taken ≤ t)
+            × ((view_in pass.old).known.drawn ≤ t + self.now.size))
             ((bare (view_in pass.new) ≡ bare (sees_cut (view_in pass.old)))
             × (held_by pass.new ≡ []))
             ((bare (view_in pass.new) ≡ bare (view_in pass.old)) × (held_by pass.new ≡ [])
             × (4611686018427387904 ≤ (view_in pass.new).sight.top))
+            ((bare (view_in pass.new) ≡ bare (view_in pass.old)) × (held_by pass.new ≡ [])
+            × ((view_in pass.old).known.drawn ≤ (view_in pass.new).sight.top)
+            × (self.now.size ≤ (view_in pass.new).sight.top)
+            × ((view_in pass.new).sight.top < (view_in pass.new).sight.low + self.now.size))
             ((bare (view_in pass.new) ≡ bare (view_in pass.old)) × (held_by pass.new ≡ [])) }
     {
         let seen = self.load_to_draw(pass);
