@@ -68,12 +68,13 @@ sees_empty n v = record v { sight = record v.sight { empty = n } }
 abbrev pub sees_full : {T : Type 0} → ℕ → View T → View T
 sees_full t v = record v { sight = record v.sight { full = Some t } }
 
--- when it saw the ring empty, all was claimed that it had sent, and the mark that it saw last
+-- when it saw the ring empty, all was claimed that it had sent, and the mark that it saw last. True of a pass that sent
+-- nothing and saw no mark
 abbrev pub SawAllTaken : {T : Type 0} → View T → Type 0
 SawAllTaken v = Below v.sight.empty v.account.sent
     × ((p : ℕ) → v.sight.ripe ≡ Some p → p < v.sight.empty)
 
--- when it saw the ring full, all was counted as claimed that it had received
+-- when it saw the ring full, all was counted as claimed that it had received. True of a pass that received nothing
 abbrev pub SawAllGot : {T : Type 0} → View T → Type 0
 SawAllGot v = (t : ℕ) → v.sight.full ≡ Some t → Below t v.account.got
 

@@ -13,9 +13,10 @@ use std::alloc::Allocator;
 use std::marker::Brand;
 
 impl<T: Drop, A: Allocator + Drop> Ring<T, A> {
-    /// Looks for the first value that waits. Where it finds none, all was claimed at that moment that the pass had sent or
-    /// seen marked, in this call or before, and it pays one look that is owed. "Over" comes only if the ring was cut, and
-    /// all is claimed. Three accesses at most.
+    /// Looks for the first value that waits. If it finds none, it pays one look that is owed, and all is claimed that the
+    /// pass had sent or seen marked, in this call or before. Only the body shows that nothing waited at one moment: it
+    /// loads the number claimed first, and the number drawn later. "Over" comes only if the ring was cut, and all is
+    /// claimed. Each later look of the pass answers "Over" too. Three accesses at most.
     pub fn look(&self, pass: &mut Pass<T>) -> Look
         requires ring { pass.old.seat.table_id ≡ self.now.table.shared.table_id }
         ensures pass { IsStill pass.old pass.new }
@@ -85,8 +86,8 @@ impl<T: Drop, A: Allocator + Drop> Ring<T, A> {
         }
     }
 
-    /// Claims the position that a look found. False if another pass was first. It pays one look that is owed.
-    /// The pass has to read the value. One access.
+    /// Claims the position that a look found, and pays one look that is owed. The pass has to read the value. False only
+    /// if another pass had claimed it. One access.
     pub fn claim(&self, pass: &mut Pass<T>, at: u64) -> bool
         requires ring { pass.old.seat.table_id ≡ self.now.table.shared.table_id }
         requires member { (view_in pass.old).role ≡ Member }

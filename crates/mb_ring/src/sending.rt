@@ -16,8 +16,10 @@ use std::marker::Brand;
 impl<T: Drop, A: Allocator + Drop> Ring<T, A> {
     /// Draws the next position for this value, which counts as sent from then on. The pass has to mark the position,
     /// and then owes a wake.
-    /// At "Full", as many values waited as there are slots when the last access was made. All that the pass had received
-    /// was claimed then. Three accesses at most.
+    /// "Full" comes with the number claimed at the last access. All that the pass had received is below it, and at least
+    /// as many more positions are drawn as there are slots. Only the body shows that both numbers were exact at one
+    /// moment: it loads the number drawn first, and the number claimed later. If the pass was told before
+    /// that the ring is cut, or that no value can come, the answer is "Closed". Three accesses at most.
     pub fn draw(&self, pass: &mut Pass<T>, value: &T) -> Draw
         requires ring { pass.old.seat.table_id ≡ self.now.table.shared.table_id }
         requires free { IsFree pass.old }
