@@ -10,6 +10,7 @@ pub mod MarkMoves
 pub mod ClaimMoves
 pub mod ReadMoves
 pub mod LookMoves
+pub mod EmptyMoves
 pub mod CutMoves
 pub mod ListMoves
 pub mod PassMoves
