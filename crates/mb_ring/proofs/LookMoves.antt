@@ -5,7 +5,7 @@ use Rattle.mb_ring.proofs.Base.{◌%◌, ◌*◌, ◌+◌, ◌<◌, ◌∷◌, �
 use Rattle.mb_segment.proofs.Base.{if◌then◌else◌, nat_eq}
 use Rattle.mb_segment.proofs.Spots.{same_some}
 use Rattle.mb_ring.specs.Vocabulary.{Below, Claim, Fits, Issuer, Keeps, KnowsCut, Member, Role, SawAllGot, Sat, Spent}
-use Rattle.mb_ring.specs.Vocabulary.{Spot, View, asking, counting, drawn, mark_in, seeing_cut, seeing_mark, seeing_room}
+use Rattle.mb_ring.specs.Vocabulary.{Spot, View, asking, counting, mark_in, seeing_cut, seeing_mark, seeing_room}
 use Rattle.mb_ring.specs.Vocabulary.{seeing_taken, sees_cut, sees_drawn, sees_full, sees_mark, sees_room, sees_taken, spot}
 use Rattle.mb_ring.specs.Vocabulary.{spots_to, taken, turn}
 use Rattle.mb_ring.proofs.Laps.{later_lap, turn_drawn}

@@ -53,9 +53,8 @@ pub fn full_is_true<T>()
         → drawn_in s ≡ claimed_in s + length s.homes }
     ensures full { (s : RingState T) (k : Keeps s) (n : ℕ) (v : View T) (t : ℕ) → IsViewOf s n v
         → v.sight.full ≡ Some t → (t ≤ claimed_in s) × (t + length s.homes ≤ drawn_in s) }
-    ensures got { (s : RingState T) (k : Keeps s) (n : ℕ) (v : View T) (t p : ℕ) (x : T)
-        → IsViewOf s n v → SawAllGot v → v.sight.full ≡ Some t → Has p x v.account.got
-        → (p < t) × (t ≤ claimed_in s) × (t + length s.homes ≤ drawn_in s) }
+    ensures got { (v : View T) (t p : ℕ) (x : T) → SawAllGot v → v.sight.full ≡ Some t
+        → Has p x v.account.got → p < t }
 {}
 
 /// Where a receiver loaded the number claimed, and then finds no more drawn, each position drawn is claimed at that

@@ -19,5 +19,4 @@ returns-clause-full g c s k n v t at on =
     let f = (k.fits n v at).sight.full t on in let a = f.0 in let b = f.1 in (omega arith, omega arith)
 
 pub returns-clause-got : goal.returns-clause-got
-returns-clause-got g c s k n v t p x at saw on has =
-    let box = returns-clause-full g c s k n v t at on in (has_below t p x v.account.got (saw t on) has, box.0, box.1)
+returns-clause-got g c v t p x saw on has = has_below t p x v.account.got (saw t on) has
