@@ -10,7 +10,7 @@ use Rattle.mb_segment.specs.declared.waiting.Received.{Received}
 use Rattle.mb_segment.specs.declared.waiting.Received.TheVariants as received
 use Rattle.mb_segment.specs.Waiting.{OfReceived}
 use Rattle.mb_segment.specs.Moves.{SawAllTaken}
-use Rattle.mb_channel.specs.Inside.{account_in, in_visits, log_in, values}
+use Rattle.mb_channel.specs.Inside.{account_in, in_visits, log_in, told_in, values}
 use Rattle.mb_channel.specs.Receives.{OfTried, SawNothing, found_in, found_there}
 
 module _ {T : Type 0} where
@@ -52,10 +52,10 @@ module _ {T : Type 0} where
   pub log_received : (n : ℕ) (vs : List (Visit T)) (o : Option (Inside T)) (i j : Inside T)
       (r : Received T) → o ≡ Some i
       → OfReceived r (λ x. values (account_in j).got ≡ values (account_in i).got ++ x ∷ [])
-      ((j.over ≡ true) × ((account_in j).got ≡ (account_in i).got))
+      ((told_in j ≡ true) × ((account_in j).got ≡ (account_in i).got))
       (SawNothing i j × ((account_in j).got ≡ (account_in i).got))
       → OfReceived r (λ x. log_in got vs (Some j) ≡ log_in got vs o ++ x ∷ [])
-      ((j.over ≡ true) × (log_in got vs (Some j) ≡ log_in got vs o))
+      ((told_in j ≡ true) × (log_in got vs (Some j) ≡ log_in got vs o))
       (SawThere n o j × (log_in got vs (Some j) ≡ log_in got vs o))
   log_received n vs o i j (received.Value x) is a = log_more got vs o i j x is a
   log_received n vs o i j received.Over is a = (a.0, log_same got vs o i j is a.1)

@@ -4,7 +4,7 @@ use Rattle.mb_segment.specs.Vocabulary.{is_over}
 use Rattle.mb_channel.specs.Types.{Knows}
 use Rattle.mb_channel.specs.declared.channel.Channel.{Channel}
 use Rattle.mb_channel.specs.declared.end.End.{End}
-use Rattle.mb_channel.specs.Inside.{Log, log_in, log_of_past}
+use Rattle.mb_channel.specs.Inside.{Log, log_in, log_of_past, told_in}
 
 abbrev pub view_of : {T : Type 0} → End T → Knows T
 view_of e = e.chair.me.0
@@ -68,4 +68,4 @@ SawOver e = IfSome e.inside (λ i. is_over i.pass.seat.me.0 ≡ true)
 
 -- and no value can come any more
 abbrev pub IsOver : {T : Type 0} → End T → Type 0
-IsOver e = IfSome e.inside (λ i. i.over ≡ true)
+IsOver e = IfSome e.inside (λ i. told_in i ≡ true)

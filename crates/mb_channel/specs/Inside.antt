@@ -1,5 +1,5 @@
 -- What an end has of the segment where it is, and what its visits and its pass there list.
-use Rattle.std.specs.Prelude.{ℕ, ◌++◌, List, [], ◌∷◌, map, Option, Some, None}
+use Rattle.std.specs.Prelude.{ℕ, ◌++◌, Bool, false, List, [], ◌∷◌, map, Option, Some, None}
 use Rattle.mb_channel.specs.Types.{Account, Arc, Global, Pass, Past, Position, Segment, Visit}
 use Rattle.mb_channel.specs.declared.inside.Inside.{Inside}
 
@@ -11,7 +11,15 @@ pass_in i = record { seat = i.pass.seat }
 abbrev pub account_in : {T : Type 0} → Inside T → Account T
 account_in i = i.pass.seat.me.0.account
 
+-- whether it was told that no value can come there any more
+abbrev pub told_in : {T : Type 0} → Inside T → Bool
+told_in i = i.pass.seat.me.0.over
+
 -- ---- of an end that may be in a segment
+abbrev pub told_there : {T : Type 0} → Option (Inside T) → Bool
+told_there None = false
+told_there (Some i) = told_in i
+
 -- its share of that segment
 abbrev pub share_in : {T : Type 0} → Option (Inside T) → Option (Arc (Segment T Global) Global)
 share_in None = None

@@ -9,6 +9,10 @@ pub mod Lives
 pub mod LifeSamples
 pub mod Inside
 pub mod Ends
+pub mod Owing
+pub mod Work
+pub mod Standing
+pub mod Polls
 pub mod Told
 pub mod Receives
 pub mod Rests

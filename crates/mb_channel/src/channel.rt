@@ -77,11 +77,7 @@ impl<T: Drop> Channel<T> {
         match self.list.come(&mut end.chair, at, takes) {
             Came::Here(segment, pass) => {
                 let pass = pass.rest();
-                end.inside = Some(Inside {
-                    segment,
-                    pass,
-                    over: false,
-                });
+                end.inside = Some(Inside { segment, pass });
                 Ok(true)
             }
             Came::Gone(first) => {
@@ -135,23 +131,16 @@ impl<T: Drop> Channel<T> {
         let Some(inside) = end.inside.take() else {
             return true;
         };
-        let Inside {
-            segment,
-            pass,
-            over,
-        } = inside;
-        match self.list.leave(&mut end.chair, at, pass.pass(), over) {
+        let Inside { segment, pass } = inside;
+        match self.list.leave(&mut end.chair, at, pass.pass(), end.over) {
             Ok(_) => {
                 end.at = at + 1;
+                end.over = false;
                 true
             }
             Err(pass) => {
                 let pass = pass.rest();
-                end.inside = Some(Inside {
-                    segment,
-                    pass,
-                    over,
-                });
+                end.inside = Some(Inside { segment, pass });
                 false
             }
         }
@@ -159,6 +148,8 @@ impl<T: Drop> Channel<T> {
 
     /// Goes on: leaves the segment where the end is, or comes to the next one. It is a try, which may change nothing if
     /// the lock is taken. It is `false` for a receiver if the next one is not there yet.
+    #[cold]
+    #[inline(never)]
     pub(crate) fn go_on(&self, end: &mut End<T>, takes: bool) -> Result<bool, Refused>
         requires channel { IsEndOf self.now end.old }
         requires side { takes ≡ true → (view_of end.old).takes ≡ true }

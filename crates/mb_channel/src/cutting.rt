@@ -1,13 +1,13 @@
 //! Closing a channel. Whoever closes it goes on to behind the last segment, and cuts each on the way.
 ghost use Rattle.std.specs.Prelude.{ℕ, ◌≡◌, ◌++◌, ◌∷◌, [], true, false};
 ghost use Rattle.mb_segment.specs.Vocabulary.{is_over};
-ghost use Rattle.mb_channel.specs.Inside.{account_in};
+ghost use Rattle.mb_channel.specs.Inside.{account_in, told_in};
 ghost use Rattle.mb_channel.specs.Tallies.{saw_closed};
 ghost use Rattle.mb_channel.specs.Ends.{HasEnded, IsBehind, IsEndOf, IsSame, SawOver, StaysTold, given_to, got_by, log_of, sent_by, view_of};
 
 use crate::channel::{Channel, Refused};
 use crate::end::{End, Receiver, Sender};
-use crate::inside::Inside;
+use crate::inside::{Inside, rested};
 use crate::rule::AsNobody;
 use std::sync::Wait;
 use std::thread::yield_now;
@@ -19,20 +19,12 @@ impl<T: Drop> Inside<T> {
         ensures sent { (account_in result).sent ≡ (account_in self).sent }
         ensures got { (account_in result).got ≡ (account_in self).got }
         ensures over { is_over result.pass.seat.me.0 ≡ true }
+        ensures told { told_in result ≡ told_in self }
     {
-        let Inside {
-            segment,
-            pass,
-            over,
-        } = self;
+        let Inside { segment, pass } = self;
         let mut pass = pass.pass();
         segment.close(rt, &mut pass);
-        let pass = pass.rest();
-        Inside {
-            segment,
-            pass,
-            over,
-        }
+        rested(segment, pass)
     }
 }
 

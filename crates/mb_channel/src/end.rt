@@ -1,7 +1,7 @@
 //! Senders and receivers.
 ghost use Rattle.std.specs.Prelude.{◌≡◌, ◌<◌, [], true, false, is_some};
 ghost use Rattle.mb_channel.specs.Homes.{IsReady, view_in};
-ghost use Rattle.mb_channel.specs.Inside.{got_there, share_in};
+ghost use Rattle.mb_channel.specs.Inside.{got_there, share_in, told_there};
 
 use crate::inside::Inside;
 use crate::list::Chair;
@@ -19,6 +19,8 @@ pub struct End<T: Drop> {
     /// For how many ends it counts, if that is below 2^64 - 1.
     pub(crate) rights: u64,
     pub(crate) inside: Option<Inside<T>>,
+    /// Whether it was told that no value can come any more in the segment where it is.
+    pub(crate) over: bool,
     ghost ready: { IsReady chair.me },
     ghost here: { (view_in chair).at ≡ at },
     ghost counts: { 0 < (view_in chair).rights },
@@ -27,6 +29,7 @@ pub struct End<T: Drop> {
     ghost place: { is_some inside ≡ true → (view_in chair).place ≡ share_in inside },
     ghost orderly: { (view_in chair).orderly ≡ true },
     ghost poor: { (view_in chair).takes ≡ false → got_there inside ≡ [] },
+    ghost told: { over ≡ told_there inside },
     ghost room: { is_some inside ≡ true → at < 18446744073709551615 },
 }
 
@@ -51,6 +54,7 @@ impl<T: Drop> End<T> {
 
     /// Sends a value in the segment where the end is. It comes back if the end is in none, or if no more can be sent
     /// there.
+    #[inline(always)]
     pub(crate) fn send<R: Wait>(&mut self, rt: &R, value: T) -> Result<(), T>
         ensures chair { self.new.chair ≡ self.old.chair }
         ensures sent { OnOk result (sent_by self.new ≡ sent_by self.old ++ value ∷ []) }
@@ -68,6 +72,7 @@ impl<T: Drop> End<T> {
 
     /// Receives a value in the segment where the end is. `None` if the end is in none, or if none can come there any
     /// more.
+    #[inline(always)]
     pub(crate) fn receive<R: Wait>(&mut self, rt: &R) -> Option<T>
         requires takes { (view_of self.old).takes ≡ true }
         ensures chair { self.new.chair ≡ self.old.chair }
@@ -78,6 +83,9 @@ impl<T: Drop> End<T> {
         let inside = self.inside.take()?;
         let (inside, got) = inside.receive(rt);
         self.inside = Some(inside);
+        if got.is_none() {
+            self.over = true;
+        }
         got
     }
 }
@@ -105,6 +113,9 @@ impl<T: Drop> End<T> {
         };
         let (inside, got) = inside.receive_by(rt, deadline);
         self.inside = Some(inside);
+        if matches!(&got, Received::Over) {
+            self.over = true;
+        }
         got
     }
 
@@ -124,6 +135,9 @@ impl<T: Drop> End<T> {
         let inside = self.inside.take()?;
         let (inside, tried) = inside.try_receive();
         self.inside = Some(inside);
+        if tried.is_none() {
+            self.over = true;
+        }
         tried
     }
 }

@@ -28,16 +28,13 @@ impl<T: Drop> Channel<T> {
             at,
             rights,
             inside,
+            over,
         } = end;
         let mut chair = chair;
         let Some(inside) = inside else {
             return (chair, rights);
         };
-        let Inside {
-            segment: _,
-            pass,
-            over,
-        } = inside;
+        let Inside { segment: _, pass } = inside;
         let mut idle = pass;
         for _ in rt.forever() {
             match self.list.leave(&mut chair, at, idle.pass(), over) {

@@ -1,9 +1,10 @@
 //! What an end has of the segment where it is.
 ghost use Rattle.std.specs.Prelude.{◌≡◌};
 ghost use Rattle.std.specs.Arc.{arc_value};
-ghost use Rattle.mb_segment.specs.Seats.{IsFree, view_in};
+ghost use Rattle.mb_segment.specs.Seats.{IsFree};
 ghost use Rattle.mb_segment.specs.Waiting.{value_of};
 
+use crate::attempt::Attempt;
 use crate::home::Shared;
 use crate::tried::Tried;
 use mb_segment::{Idle, Look, NotSent, Pass, Received};
@@ -15,65 +16,91 @@ use std::time::{Clock, Instant};
 pub struct Inside<T: Drop> {
     pub(crate) segment: Shared<T>,
     pub(crate) pass: Idle<T>,
-    /// Whether the pass was told that no value can come any more.
-    pub(crate) over: bool,
     ghost same: { pass.seat.table_id ≡ (arc_value segment).table.shared.table_id },
-    ghost told: { over ≡ pass.seat.me.0.over },
 }
 
 impl<T: Drop> Inside<T> {
     ghost use Rattle.std.specs.Prelude.{◌++◌, ◌∷◌, [], true, IfErr, IfNone, IfSome, OnOk};
     ghost use Rattle.mb_segment.specs.Vocabulary.{is_over};
-    ghost use Rattle.mb_channel.specs.Inside.{account_in, values};
+    ghost use Rattle.mb_channel.specs.Inside.{account_in, told_in, values};
+    ghost use Rattle.mb_channel.specs.Work.{HasSent, IsStill, work_in};
 
     /// Sends a value here. It comes back if no more can be sent here.
+    #[inline(always)]
     pub(crate) fn send<R: Wait>(self, rt: &R, value: T) -> (Inside<T>, Result<(), T>)
-        ensures segment { result.0.segment ≡ self.segment }
-        ensures sent { OnOk result.1 (values (account_in result.0).sent
-            ≡ values (account_in self).sent ++ value ∷ []) }
+        ensures sent { OnOk result.1 (HasSent value (work_in self) (work_in result.0)) }
         ensures back { IfErr result.1 (λ x. (x ≡ value)
-            × ((account_in result.0).sent ≡ (account_in self).sent)
+            × IsStill (work_in self) (work_in result.0)
             × (is_over result.0.pass.seat.me.0 ≡ true)) }
-        ensures got { (account_in result.0).got ≡ (account_in self).got }
     {
-        let Inside {
-            segment,
-            pass,
-            over,
-        } = self;
+        match self.try_send(value) {
+            Attempt::Sent(inside) => (inside, Ok(())),
+            Attempt::Owes(busy) => (busy.pay(rt), Ok(())),
+            Attempt::Again(inside, value) => inside.send_slowly(rt, value),
+            Attempt::Over(inside, value) => (inside, Err(value)),
+        }
+    }
+
+    /// The same where another was first.
+    #[cold]
+    #[inline(never)]
+    fn send_slowly<R: Wait>(self, rt: &R, value: T) -> (Inside<T>, Result<(), T>)
+        ensures sent { OnOk result.1 (HasSent value (work_in self) (work_in result.0)) }
+        ensures back { IfErr result.1 (λ x. (x ≡ value)
+            × IsStill (work_in self) (work_in result.0)
+            × (is_over result.0.pass.seat.me.0 ≡ true)) }
+    {
+        let Inside { segment, pass } = self;
         let mut pass = pass.pass();
         match segment.send(rt, &mut pass, value) {
-            Ok(()) => (rested(segment, pass, over), Ok(())),
-            Err(refused) => (rested(segment, pass, over), Err(value_in(refused))),
+            Ok(()) => (rested(segment, pass), Ok(())),
+            Err(refused) => (rested(segment, pass), Err(value_in(refused))),
         }
     }
 
     /// Receives a value here. `None` only if none can come any more.
+    #[inline(always)]
     pub(crate) fn receive<R: Wait>(self, rt: &R) -> (Inside<T>, Option<T>)
         ensures segment { result.0.segment ≡ self.segment }
         ensures got { IfSome result.1 (λ x. values (account_in result.0).got
             ≡ values (account_in self).got ++ x ∷ []) }
-        ensures over { IfNone result.1 ((result.0.over ≡ true)
+        ensures told { IfSome result.1 (λ _. told_in result.0 ≡ told_in self) }
+        ensures over { IfNone result.1 ((told_in result.0 ≡ true)
             × ((account_in result.0).got ≡ (account_in self).got)) }
         ensures sent { (account_in result.0).sent ≡ (account_in self).sent }
     {
-        let Inside {
-            segment,
-            pass,
-            over,
-        } = self;
-        let mut pass = pass.pass();
-        match segment.receive(rt, &mut pass) {
-            Some(value) => (rested(segment, pass, over), Some(value)),
-            None => (rested(segment, pass, true), None),
+        let (inside, tried) = self.try_receive();
+        match tried {
+            Some(Tried::Value(value)) => (inside, Some(value)),
+            Some(Tried::Empty) => inside.receive_slowly(rt),
+            Some(Tried::Again) => inside.receive_slowly(rt),
+            None => (inside, None),
         }
+    }
+
+    /// The same where no value was there.
+    #[cold]
+    #[inline(never)]
+    fn receive_slowly<R: Wait>(self, rt: &R) -> (Inside<T>, Option<T>)
+        ensures segment { result.0.segment ≡ self.segment }
+        ensures got { IfSome result.1 (λ x. values (account_in result.0).got
+            ≡ values (account_in self).got ++ x ∷ []) }
+        ensures told { IfSome result.1 (λ _. told_in result.0 ≡ told_in self) }
+        ensures over { IfNone result.1 ((told_in result.0 ≡ true)
+            × ((account_in result.0).got ≡ (account_in self).got)) }
+        ensures sent { (account_in result.0).sent ≡ (account_in self).sent }
+    {
+        let Inside { segment, pass } = self;
+        let mut pass = pass.pass();
+        let got = segment.receive(rt, &mut pass);
+        (rested(segment, pass), got)
     }
 }
 
 impl<T: Drop> Inside<T> {
     ghost use Rattle.std.specs.Prelude.{◌++◌, ◌∷◌, ◌≤◌, [], true, IfNone, IfSome};
     ghost use Rattle.mb_segment.specs.Waiting.{OfReceived};
-    ghost use Rattle.mb_channel.specs.Inside.{account_in, values};
+    ghost use Rattle.mb_channel.specs.Inside.{account_in, told_in, values};
     ghost use Rattle.mb_channel.specs.Receives.{OfTried, SawNothing, found_in};
 
     /// Receives a value here, until a deadline.
@@ -85,22 +112,17 @@ impl<T: Drop> Inside<T> {
         ensures segment { result.0.segment ≡ self.segment }
         ensures answer { OfReceived result.1
             (λ x. values (account_in result.0).got ≡ values (account_in self).got ++ x ∷ [])
-            ((result.0.over ≡ true) × ((account_in result.0).got ≡ (account_in self).got))
+            ((told_in result.0 ≡ true) × ((account_in result.0).got ≡ (account_in self).got))
             (SawNothing self result.0 × ((account_in result.0).got ≡ (account_in self).got)) }
+        ensures told { OfReceived result.1 (λ _. told_in result.0 ≡ told_in self)
+            (told_in result.0 ≡ true) (told_in result.0 ≡ told_in self) }
         ensures found { found_in self ≤ found_in result.0 }
         ensures sent { (account_in result.0).sent ≡ (account_in self).sent }
     {
-        let Inside {
-            segment,
-            pass,
-            over,
-        } = self;
+        let Inside { segment, pass } = self;
         let mut pass = pass.pass();
-        match segment.receive_by(rt, &mut pass, deadline) {
-            Received::Value(value) => (rested(segment, pass, over), Received::Value(value)),
-            Received::Over => (rested(segment, pass, true), Received::Over),
-            Received::TimedOut => (rested(segment, pass, over), Received::TimedOut),
-        }
+        let received = segment.receive_by(rt, &mut pass, deadline);
+        (rested(segment, pass), received)
     }
 
     /// Tries to receive a value here. `None` only if none can come any more.
@@ -110,48 +132,39 @@ impl<T: Drop> Inside<T> {
             (λ x. values (account_in result.0).got ≡ values (account_in self).got ++ x ∷ [])
             (SawNothing self result.0 × ((account_in result.0).got ≡ (account_in self).got))
             ((account_in result.0).got ≡ (account_in self).got)) }
-        ensures over { IfNone result.1 ((result.0.over ≡ true)
+        ensures told { IfSome result.1 (λ _. told_in result.0 ≡ told_in self) }
+        ensures over { IfNone result.1 ((told_in result.0 ≡ true)
             × ((account_in result.0).got ≡ (account_in self).got)) }
         ensures found { found_in self ≤ found_in result.0 }
         ensures sent { (account_in result.0).sent ≡ (account_in self).sent }
     {
-        let Inside {
-            segment,
-            pass,
-            over,
-        } = self;
+        let Inside { segment, pass } = self;
         let mut pass = pass.pass();
         match segment.look(&mut pass) {
             Look::Ready(at) => {
                 if segment.claim(&mut pass, at) {
                     let value = segment.read(&mut pass, at);
-                    (rested(segment, pass, over), Some(Tried::Value(value)))
+                    (rested(segment, pass), Some(Tried::Value(value)))
                 } else {
-                    (rested(segment, pass, over), Some(Tried::Again))
+                    (rested(segment, pass), Some(Tried::Again))
                 }
             }
-            Look::Yield => (rested(segment, pass, over), Some(Tried::Again)),
-            Look::Empty => (rested(segment, pass, over), Some(Tried::Empty)),
-            Look::Over => (rested(segment, pass, true), None),
+            Look::Yield => (rested(segment, pass), Some(Tried::Again)),
+            Look::Empty => (rested(segment, pass), Some(Tried::Empty)),
+            Look::Over => (rested(segment, pass), None),
         }
     }
 }
 
 /// The pass, at rest.
-fn rested<T: Drop>(segment: Shared<T>, pass: Pass<T>, over: bool) -> Inside<T>
+pub(crate) fn rested<T: Drop>(segment: Shared<T>, pass: Pass<T>) -> Inside<T>
     requires same { pass.seat.table_id ≡ (arc_value segment).table.shared.table_id }
     requires free { IsFree pass }
-    requires told { over ≡ (view_in pass).over }
     ensures segment { result.segment ≡ segment }
     ensures pass { result.pass.seat ≡ pass.seat }
-    ensures over { result.over ≡ over }
 {
     let pass = pass.rest();
-    Inside {
-        segment,
-        pass,
-        over,
-    }
+    Inside { segment, pass }
 }
 
 fn value_in<T>(refused: NotSent<T>) -> T

@@ -25,6 +25,7 @@ pub(crate) fn end_at<T: Drop>(chair: Chair<T>, at: usize) -> End<T>
         at,
         rights: 1,
         inside: None,
+        over: false,
     }
 }
 

@@ -1,7 +1,7 @@
 //! The calls that receive.
 ghost use Rattle.std.specs.Prelude.{◌≡◌, ◌⊎◌, ◌++◌, ◌∷◌, [], IfErr, IfNone, IfOk, IfSome, OnErr};
 ghost use Rattle.mb_channel.specs.Answers.{IfClosed};
-ghost use Rattle.mb_channel.specs.Ends.{IsBehind, IsEndOf, IsSame, got_by, sent_by};
+ghost use Rattle.mb_channel.specs.Ends.{IsBehind, IsEndOf, IsOver, IsSame, got_by, sent_by};
 ghost use Rattle.mb_channel.specs.Receives.{FoundNone, OfTried, SawEmpty};
 
 use crate::channel::{Channel, Refused};
@@ -18,6 +18,7 @@ const TRIES: u32 = 4;
 impl<T: Drop> Channel<T> {
     /// Receives the next value, and sleeps until there is one. [`Refused::Closed`] is told only behind the last segment,
     /// and then for ever: nothing waits in the channel, and nothing can be sent.
+    #[inline(always)]
     pub fn receive<R: Wait>(&self, rt: &R, receiver: &mut Receiver<T>) -> Result<T, Refused>
         requires channel { IsEndOf self.now receiver.old.end }
         ensures end { IsSame receiver.old.end receiver.new.end }
@@ -27,12 +28,31 @@ impl<T: Drop> Channel<T> {
         ensures closed { IfErr result (λ why. IfClosed why (IsBehind receiver.new.end)) }
         ensures sent { sent_by receiver.new.end ≡ sent_by receiver.old.end }
     {
+        match receiver.end.receive(rt) {
+            Some(value) => Ok(value),
+            None => self.receive_further(rt, receiver),
+        }
+    }
+
+    /// The same from the next segment on.
+    #[cold]
+    #[inline(never)]
+    fn receive_further<R: Wait>(&self, rt: &R, receiver: &mut Receiver<T>) -> Result<T, Refused>
+        requires channel { IsEndOf self.now receiver.old.end }
+        requires over { IsOver receiver.old.end }
+        ensures end { IsSame receiver.old.end receiver.new.end }
+        ensures got { IfOk result (λ x. got_by receiver.new.end
+            ≡ got_by receiver.old.end ++ x ∷ []) }
+        ensures none { OnErr result (got_by receiver.new.end ≡ got_by receiver.old.end) }
+        ensures closed { IfErr result (λ why. IfClosed why (IsBehind receiver.new.end)) }
+        ensures sent { sent_by receiver.new.end ≡ sent_by receiver.old.end }
+    {
         for _ in rt.forever() {
+            self.go_on(&mut receiver.end, true)?;
+            yield_now();
             if let Some(value) = receiver.end.receive(rt) {
                 return Ok(value);
             }
-            self.go_on(&mut receiver.end, true)?;
-            yield_now();
         }
         unreachable!()
     }

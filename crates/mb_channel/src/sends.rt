@@ -1,7 +1,7 @@
 //! The calls that send.
 ghost use Rattle.std.specs.Prelude.{◌≡◌, ◌++◌, ◌∷◌, [], true, IfErr, OnOk};
 ghost use Rattle.mb_channel.specs.Answers.{IfClosed};
-ghost use Rattle.mb_channel.specs.Ends.{IsEndOf, IsSame, got_by, sent_by, view_of};
+ghost use Rattle.mb_channel.specs.Ends.{IsEndOf, IsSame, SawOver, got_by, sent_by, view_of};
 
 use crate::channel::{Channel, Refused};
 use crate::end::Sender;
@@ -18,6 +18,7 @@ pub struct NotSent<T> {
 impl<T: Drop> Channel<T> {
     /// Sends a value, behind all that the sender sent before, and wakes a receiver for it. The error gives it back.
     /// [`Refused::Closed`] is told only if the list is closed.
+    #[inline(always)]
     pub fn send<R: Wait>(&self, rt: &R, sender: &mut Sender<T>, value: T) -> Result<(), NotSent<T>>
         requires channel { IsEndOf self.now sender.old.end }
         ensures end { IsSame sender.old.end sender.new.end }
@@ -29,16 +30,42 @@ impl<T: Drop> Channel<T> {
             IfClosed e.why ((view_of sender.new.end).shut ≡ true)) }
         ensures got { got_by sender.new.end ≡ got_by sender.old.end }
     {
+        match sender.end.send(rt, value) {
+            Ok(()) => Ok(()),
+            Err(value) => self.send_further(rt, sender, value),
+        }
+    }
+
+    /// The same from the next segment on.
+    #[cold]
+    #[inline(never)]
+    fn send_further<R: Wait>(
+        &self,
+        rt: &R,
+        sender: &mut Sender<T>,
+        value: T,
+    ) -> Result<(), NotSent<T>>
+        requires channel { IsEndOf self.now sender.old.end }
+        requires over { SawOver sender.old.end }
+        ensures end { IsSame sender.old.end sender.new.end }
+        ensures sent { OnOk result (sent_by sender.new.end
+            ≡ sent_by sender.old.end ++ value ∷ []) }
+        ensures back { IfErr result (λ e. (e.value ≡ value)
+            × (sent_by sender.new.end ≡ sent_by sender.old.end)) }
+        ensures closed { IfErr result (λ e.
+            IfClosed e.why ((view_of sender.new.end).shut ≡ true)) }
+        ensures got { got_by sender.new.end ≡ got_by sender.old.end }
+    {
         let mut value = value;
         for _ in rt.forever() {
-            match sender.end.send(rt, value) {
-                Ok(()) => return Ok(()),
-                Err(back) => value = back,
-            }
             if let Err(why) = self.go_on(&mut sender.end, false) {
                 return Err(NotSent { value, why });
             }
             yield_now();
+            match sender.end.send(rt, value) {
+                Ok(()) => return Ok(()),
+                Err(back) => value = back,
+            }
         }
         unreachable!()
     }

@@ -62,7 +62,9 @@ impl Sending {
                 let old = replace(&mut self.sender, other);
                 channel.give_sender(rt, &mut self.keeper, old);
             }
-            Fate::Returned => channel.give_sender(rt, &mut self.keeper, other),
+            Fate::Returned => {
+                channel.give_sender(rt, &mut self.keeper, other);
+            }
             Fate::Dropped => {
                 add(&account.dropped, 1);
                 drop(other);

@@ -29,7 +29,7 @@ impl Ends {
         self.made.fetch_add(1, SeqCst)
     }
 
-    /// The same if there is one.
+    /// Adds an end if there is one already, and returns its number.
     pub(super) fn add_to_others(&self) -> Option<u64> {
         let more = |there: usize| (there > 0).then_some(there + 1);
         let added = self.there.fetch_update(SeqCst, SeqCst, more);
@@ -161,7 +161,8 @@ impl<T> Shared<T> {
         }
     }
 
-    /// The same after a look that found nothing.
+    /// What `take` does after a look that found nothing. If nothing more may come, it looks once more. The answer is
+    /// `Over` if that look finds nothing either, and no job began or ended meanwhile.
     #[cold]
     fn look_again(&self, seat: &Seat<T>, who: u64, ticket: Option<&Ticket>) -> Look<T> {
         let jobs = self.jobs.0.load();
@@ -174,8 +175,8 @@ impl<T> Shared<T> {
         }
     }
 
-    /// The same for a job, which is open if it returns a value. It counts as open during the look: so nobody else finds that
-    /// nothing comes, while this value may come back.
+    /// What `take` does for a job, which is open if a value is returned. The job counts as open during the look. So
+    /// nobody else finds that nothing comes, while this value may come back.
     pub(super) fn take_job(&self, seat: &Seat<T>, who: u64, ticket: Option<&Ticket>) -> Look<T> {
         let may_come = self.may_come();
         let before = self.jobs.0.begin();

@@ -180,7 +180,7 @@ impl<T> Chain<T> {
         look
     }
 
-    /// The same for a seat that stands in no segment so far, or in one that is over.
+    /// What `take` does for a seat that stands in no segment so far, or in one that is over.
     #[cold]
     fn go_on(&self, mut place: MutexGuard<'_, Place<T>>, who: u64) -> Look<T> {
         let mut is_first = false;

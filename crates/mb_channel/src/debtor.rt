@@ -1,0 +1,156 @@
+//! An end that owes something in the segment where it is.
+ghost use Rattle.std.specs.Prelude.{◌≡◌, ◌<◌, [], Some, true, false};
+ghost use Rattle.mb_channel.specs.Homes.{IsReady, view_in};
+
+use crate::attempt::Attempt;
+use crate::busy::Busy;
+use crate::end::End;
+use crate::list::Chair;
+use std::sync::Wait;
+
+/// An end that owes something in its segment. It cannot be dropped.
+pub struct Debtor<T: Drop> {
+    pub(crate) chair: Chair<T>,
+    pub(crate) at: usize,
+    pub(crate) rights: u64,
+    pub(crate) busy: Busy<T>,
+    pub(crate) over: bool,
+    ghost ready: { IsReady chair.me },
+    ghost here: { (view_in chair).at ≡ at },
+    ghost counts: { 0 < (view_in chair).rights },
+    ghost counted: { rights < 18446744073709551615 → (view_in chair).rights ≡ rights },
+    ghost inside: { (view_in chair).inside ≡ true },
+    ghost place: { (view_in chair).place ≡ Some busy.segment },
+    ghost orderly: { (view_in chair).orderly ≡ true },
+    ghost poor: { (view_in chair).takes ≡ false → busy.pass.seat.me.0.account.got ≡ [] },
+    ghost told: { over ≡ busy.pass.seat.me.0.over },
+    ghost room: { at < 18446744073709551615 },
+}
+
+/// What came of a try to send in the segment where the end is.
+pub enum Step<T: Drop> {
+    Sent(End<T>),
+    Owes(Debtor<T>),
+    /// Another was first. Try again.
+    Again(End<T>, T),
+    /// The end is in no segment, or no more can be sent there.
+    Over(End<T>, T),
+}
+
+impl<T: Drop> End<T> {
+    ghost use Rattle.mb_channel.specs.Standing.{OfStep, stand_of};
+
+    /// Tries to send a value in the segment where the end is.
+    pub(crate) fn try_send(self, value: T) -> Step<T>
+        ensures { OfStep result value (stand_of self) }
+    {
+        if self.inside.is_none() {
+            return Step::Over(self, value);
+        }
+        let End {
+            chair,
+            at,
+            rights,
+            inside,
+            over,
+        } = self;
+        let Some(inside) = inside else { unreachable!() };
+        let (inside, back) = match inside.try_send(value) {
+            Attempt::Sent(inside) => (inside, None),
+            Attempt::Again(inside, value) => (inside, Some((value, true))),
+            Attempt::Over(inside, value) => (inside, Some((value, false))),
+            Attempt::Owes(busy) => {
+                return Step::Owes(Debtor {
+                    chair,
+                    at,
+                    rights,
+                    busy,
+                    over,
+                });
+            }
+        };
+        let end = End {
+            chair,
+            at,
+            rights,
+            inside: Some(inside),
+            over,
+        };
+        match back {
+            None => Step::Sent(end),
+            Some((value, true)) => Step::Again(end, value),
+            Some((value, false)) => Step::Over(end, value),
+        }
+    }
+}
+
+impl<T: Drop> Debtor<T> {
+    ghost use Rattle.std.specs.Prelude.{IfErr, IfOk};
+    ghost use Rattle.mb_channel.specs.Standing.{NoMore, stand_of, stand_with};
+
+    /// Pays all, and wakes the threads.
+    pub(crate) fn pay<R: Wait>(self, rt: &R) -> End<T>
+        ensures still { NoMore (stand_with self) (stand_of result) }
+        ensures chair { result.chair ≡ self.chair }
+    {
+        let Debtor {
+            chair,
+            at,
+            rights,
+            busy,
+            over,
+        } = self;
+        End {
+            chair,
+            at,
+            rights,
+            inside: Some(busy.pay(rt)),
+            over,
+        }
+    }
+
+    /// The end, if it owes nothing any more.
+    pub(crate) fn rest(self) -> Result<End<T>, Debtor<T>>
+        ensures rest { IfOk result (λ e. NoMore (stand_with self) (stand_of e)
+            × (e.chair ≡ self.chair)) }
+        ensures owes { IfErr result (λ d. NoMore (stand_with self) (stand_with d)
+            × (d.chair ≡ self.chair)) }
+    {
+        let Debtor {
+            chair,
+            at,
+            rights,
+            busy,
+            over,
+        } = self;
+        match busy.rest() {
+            Ok(inside) => Ok(End {
+                chair,
+                at,
+                rights,
+                inside: Some(inside),
+                over,
+            }),
+            Err(busy) => Err(Debtor {
+                chair,
+                at,
+                rights,
+                busy,
+                over,
+            }),
+        }
+    }
+
+    /// Tries to pay, with a few accesses. It tells whether the caller has to wake a thread. The end comes back once it
+    /// owes nothing more.
+    pub(crate) fn pay_some(self) -> (bool, Result<End<T>, Debtor<T>>)
+        ensures paid { IfOk result.1 (λ e. NoMore (stand_with self) (stand_of e)
+            × (e.chair ≡ self.chair)) }
+        ensures owes { IfErr result.1 (λ d. NoMore (stand_with self) (stand_with d)
+            × (d.chair ≡ self.chair)) }
+    {
+        let mut debtor = self;
+        let wakes = debtor.busy.pay_some();
+        (wakes, debtor.rest())
+    }
+}

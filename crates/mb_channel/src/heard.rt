@@ -1,0 +1,139 @@
+//! The looks of a receiver that never waits, in its segment.
+ghost use Rattle.std.specs.Prelude.{◌≡◌};
+ghost use Rattle.mb_channel.specs.Receives.{found_in};
+ghost use Rattle.mb_channel.specs.Work.{IfAsleep, OfHeard, SawNothing, found_of, work_in, work_of};
+ghost use Rattle.mb_channel.specs.declared.busy.Debt.TheVariants as owed;
+
+use crate::busy::{Busy, Debt};
+use crate::inside::Inside;
+use mb_segment::{Look, Rest};
+
+/// What a look comes to.
+#[derive(Debug, Drop)]
+pub enum Heard<T> {
+    Value(T),
+    /// No value is there. The end is in the list, has looked there, and sleeps.
+    Asleep,
+    /// A value is being sent, or another end was first.
+    Again,
+    /// No value can come any more.
+    Over,
+}
+
+impl<T: Drop> Inside<T> {
+    /// Looks for a value here. If none is there, it enters the list of those that wait, and looks again.
+    pub(crate) fn poll(self) -> (Busy<T>, Heard<T>)
+        ensures looked { OfHeard result.1 (work_in self) result.0 }
+        ensures saw { IfAsleep result.1 (SawNothing (found_in self) result.0) }
+    {
+        let Inside { segment, pass } = self;
+        let mut busy = Busy {
+            segment,
+            pass: pass.pass(),
+            debt: Debt::Nothing,
+        };
+        let heard = busy.look_first();
+        (busy, heard)
+    }
+}
+
+impl<T: Drop> Busy<T> {
+    /// Looks. If no value is there, it enters the list.
+    fn look_first(&mut self) -> Heard<T>
+        requires nothing { self.old.debt ≡ owed.Nothing }
+        ensures looked { OfHeard result (work_of self.old) self.new }
+        ensures saw { IfAsleep result (SawNothing (found_of self.old) self.new) }
+    {
+        match self.segment.look(&mut self.pass) {
+            Look::Ready(at) => {
+                if self.segment.claim(&mut self.pass, at) {
+                    Heard::Value(self.segment.read(&mut self.pass, at))
+                } else {
+                    Heard::Again
+                }
+            }
+            Look::Yield => Heard::Again,
+            Look::Over => Heard::Over,
+            Look::Empty => self.enter(),
+        }
+    }
+
+    /// Enters the list of those that wait, and looks.
+    fn enter(&mut self) -> Heard<T>
+        requires nothing { self.old.debt ≡ owed.Nothing }
+        ensures looked { OfHeard result (work_of self.old) self.new }
+        ensures saw { IfAsleep result (SawNothing (found_of self.old) self.new) }
+    {
+        if !self.segment.enter(&mut self.pass) {
+            return Heard::Again;
+        }
+        self.debt = Debt::Fresh;
+        self.look_listed()
+    }
+
+    /// Looks, in the list.
+    fn look_listed(&mut self) -> Heard<T>
+        requires fresh { self.old.debt ≡ owed.Fresh }
+        ensures looked { OfHeard result (work_of self.old) self.new }
+        ensures saw { IfAsleep result (SawNothing (found_of self.old) self.new) }
+    {
+        match self.segment.look_listed(&mut self.pass) {
+            Look::Ready(at) => {
+                if !self.segment.claim_listed(&mut self.pass, at) {
+                    return Heard::Again;
+                }
+                let value = self.segment.read(&mut self.pass, at);
+                self.debt = Debt::Leave;
+                self.leave();
+                Heard::Value(value)
+            }
+            Look::Yield => Heard::Again,
+            Look::Over => {
+                self.debt = Debt::Leave;
+                self.leave();
+                Heard::Over
+            }
+            Look::Empty => {
+                self.debt = Debt::Asleep;
+                Heard::Asleep
+            }
+        }
+    }
+
+    /// One that sleeps takes a token, and looks. It sleeps on if no token is there.
+    pub(crate) fn wake_up(&mut self) -> Heard<T>
+        requires asleep { self.old.debt ≡ owed.Asleep }
+        ensures { OfHeard result (work_of self.old) self.new }
+    {
+        if self.segment.accept(&mut self.pass) != Rest::Woken {
+            return Heard::Asleep;
+        }
+        self.debt = Debt::Look;
+        self.look_woken()
+    }
+
+    /// Looks, for a token that it took.
+    fn look_woken(&mut self) -> Heard<T>
+        requires look { self.old.debt ≡ owed.Look }
+        ensures { OfHeard result (work_of self.old) self.new }
+    {
+        match self.segment.look(&mut self.pass) {
+            Look::Ready(at) => {
+                if !self.segment.claim(&mut self.pass, at) {
+                    return Heard::Again;
+                }
+                self.debt = Debt::Nothing;
+                Heard::Value(self.segment.read(&mut self.pass, at))
+            }
+            Look::Yield => Heard::Again,
+            Look::Over => {
+                self.debt = Debt::Nothing;
+                Heard::Over
+            }
+            Look::Empty => {
+                self.debt = Debt::Nothing;
+                Heard::Again
+            }
+        }
+    }
+}

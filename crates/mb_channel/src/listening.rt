@@ -1,0 +1,92 @@
+//! An end looks for values, and never waits.
+ghost use Rattle.std.specs.Prelude.{◌≡◌, true, IfErr, IfOk};
+ghost use Rattle.mb_channel.specs.Ends.{IsOver, view_of};
+ghost use Rattle.mb_channel.specs.Polls.{OfLook};
+ghost use Rattle.mb_channel.specs.Receives.{found_there};
+ghost use Rattle.mb_channel.specs.Standing.{stand_of, stand_with};
+ghost use Rattle.mb_channel.specs.Work.{IfAsleep, SawNothing, Sleeps};
+
+use crate::debtor::Debtor;
+use crate::end::End;
+use crate::heard::Heard;
+
+impl<T: Drop> End<T> {
+    /// Looks for a value in the segment where the end is. The end comes back if it is in none, or was told that no value
+    /// can come there any more.
+    pub(crate) fn poll(self) -> Result<(Debtor<T>, Heard<T>), End<T>>
+        requires takes { (view_of self).takes ≡ true }
+        ensures looked { IfOk result (λ r. OfLook r.1 (stand_of self) r.0
+            × (r.0.chair ≡ self.chair)) }
+        ensures saw { IfOk result (λ r. IfAsleep r.1
+            (SawNothing (found_there self.inside) r.0.busy)) }
+        ensures back { IfErr result (λ e. (e ≡ self) × IsOver e) }
+    {
+        let End {
+            chair,
+            at,
+            rights,
+            inside,
+            over,
+        } = self;
+        if over {
+            return Err(End {
+                chair,
+                at,
+                rights,
+                inside,
+                over,
+            });
+        }
+        let Some(inside) = inside else {
+            return Err(End {
+                chair,
+                at,
+                rights,
+                inside: None,
+                over,
+            });
+        };
+        let (busy, heard) = inside.poll();
+        let over = matches!(&heard, Heard::Over);
+        Ok((
+            Debtor {
+                chair,
+                at,
+                rights,
+                busy,
+                over,
+            },
+            heard,
+        ))
+    }
+}
+
+impl<T: Drop> Debtor<T> {
+    /// One that sleeps takes a token, and looks. It sleeps on if no token is there.
+    pub(crate) fn wake_up(self) -> (Debtor<T>, Heard<T>)
+        requires takes { self.chair.me.0.takes ≡ true }
+        requires asleep { Sleeps self.busy }
+        ensures looked { OfLook result.1 (stand_with self) result.0 }
+        ensures chair { result.0.chair ≡ self.chair }
+    {
+        let Debtor {
+            chair,
+            at,
+            rights,
+            mut busy,
+            over,
+        } = self;
+        let heard = busy.wake_up();
+        let over = over || matches!(&heard, Heard::Over);
+        (
+            Debtor {
+                chair,
+                at,
+                rights,
+                busy,
+                over,
+            },
+            heard,
+        )
+    }
+}

@@ -1,0 +1,165 @@
+//! A receive that never waits, and the steps of sleep.
+ghost use Rattle.std.specs.Prelude.{◌≡◌, ◌<◌, true};
+ghost use Rattle.mb_channel.specs.Homes.{view_in};
+ghost use Rattle.mb_channel.specs.Work.{Sleeps};
+
+use crate::channel::{Channel, Refused};
+use crate::debtor::Debtor;
+use crate::end::Receiver;
+use crate::heard::Heard;
+use std::sync::Wait;
+
+/// How often it leaves a segment or comes to one, at most.
+const TRIES: u32 = 4;
+
+/// A receiver that owes something: it has to leave the list of those that wait, or to wake another. It cannot be dropped.
+/// [`Leaving::pay`] and [`Leaving::pay_some`] make a receiver of it again.
+pub struct Leaving<T: Drop> {
+    pub(crate) debtor: Debtor<T>,
+    ghost takes: { (view_in debtor.chair).takes ≡ true },
+    ghost receives: { 0 < (view_in debtor.chair).receives },
+}
+
+/// A receiver that sleeps: it is in the list of those that wait, and looked there. It cannot be dropped.
+pub struct Asleep<T: Drop> {
+    pub(crate) debtor: Debtor<T>,
+    ghost takes: { (view_in debtor.chair).takes ≡ true },
+    ghost receives: { 0 < (view_in debtor.chair).receives },
+    ghost sleeps: { Sleeps debtor.busy },
+}
+
+/// What came of a receive that never waits.
+pub enum Polled<T: Drop> {
+    /// A value was received.
+    Took(Receiver<T>, T),
+    /// A value was received, and something is owed.
+    TookOwing(Leaving<T>, T),
+    /// No value is there. Sleep until a thread is woken for a sender, and then call [`Asleep::wake_up`].
+    Sleeps(Asleep<T>),
+    /// A value is being sent, another end was first, or the lock is taken. Yield, and try again.
+    Again(Receiver<T>),
+    /// The same, and something is owed.
+    Owes(Leaving<T>),
+    /// Nothing waits: the receiver is behind the last segment that there is. It does not sleep. Yield, and try again.
+    Empty(Receiver<T>),
+    /// [`Refused::Closed`]: no value can come any more, for ever. Or ends cannot be counted.
+    Refused(Receiver<T>, Refused),
+}
+
+impl<T: Drop> Channel<T> {
+    ghost use Rattle.mb_channel.specs.Ends.{IsEndOf};
+    ghost use Rattle.mb_channel.specs.Polls.{FoundEmpty, IfSleeps, OfPolled};
+    ghost use Rattle.mb_channel.specs.Standing.{stand_of};
+
+    /// Tries to receive the next value. If none is there, the receiver enters the list of those that wait, and looks
+    /// again. It makes a few accesses, and never waits itself.
+    pub fn poll_receive(&self, receiver: Receiver<T>) -> Polled<T>
+        requires channel { IsEndOf self.now receiver.end }
+        ensures answer { OfPolled result (stand_of receiver.end) }
+        ensures saw { IfSleeps result (λ a. FoundEmpty receiver.end a.debtor) }
+    {
+        let Receiver { mut end } = receiver;
+        for _ in 0..TRIES {
+            match end.poll() {
+                Ok((debtor, heard)) => return debtor.answer(heard),
+                Err(back) => end = back,
+            }
+            match self.go_on(&mut end, true) {
+                Ok(true) => {}
+                Ok(false) => return Polled::Empty(Receiver { end }),
+                Err(why) => return Polled::Refused(Receiver { end }, why),
+            }
+        }
+        Polled::Again(Receiver { end })
+    }
+}
+
+impl<T: Drop> Asleep<T> {
+    ghost use Rattle.mb_channel.specs.Polls.{OfPolled};
+    ghost use Rattle.mb_channel.specs.Standing.{NoMore, stand_with};
+
+    /// Takes a token, if one is there, and looks. Else it sleeps on.
+    pub fn wake_up(self) -> Polled<T>
+        ensures answer { OfPolled result (stand_with self.debtor) }
+    {
+        let Asleep { debtor } = self;
+        let (debtor, heard) = debtor.wake_up();
+        debtor.answer(heard)
+    }
+
+    /// Stops waiting. It has still to leave the list.
+    pub fn give_up(self) -> Leaving<T>
+        ensures still { NoMore (stand_with self.debtor) (stand_with result.debtor) }
+    {
+        let Asleep { debtor } = self;
+        Leaving { debtor }
+    }
+}
+
+impl<T: Drop> Leaving<T> {
+    ghost use Rattle.std.specs.Prelude.{IfErr, IfOk};
+    ghost use Rattle.mb_channel.specs.Standing.{NoMore, stand_of, stand_with};
+
+    /// Leaves the list, and gives the tokens that are owed. It wakes a thread for each.
+    pub fn pay<R: Wait>(self, rt: &R) -> Receiver<T>
+        ensures { NoMore (stand_with self.debtor) (stand_of result.end) }
+    {
+        let Leaving { debtor } = self;
+        Receiver {
+            end: debtor.pay(rt),
+        }
+    }
+
+    /// Tries to leave the list, or to give a token, and wakes nobody. If the answer has `true`, the caller has to wake one
+    /// thread that sleeps in the channel. The receiver comes back once it owes nothing more.
+    pub fn pay_some(self) -> (bool, Result<Receiver<T>, Leaving<T>>)
+        ensures paid { IfOk result.1 (λ r. NoMore (stand_with self.debtor) (stand_of r.end)) }
+        ensures owes { IfErr result.1 (λ l. NoMore (stand_with self.debtor) (stand_with l.debtor)) }
+    {
+        let Leaving { debtor } = self;
+        let (wakes, rest) = debtor.pay_some();
+        match rest {
+            Ok(end) => (wakes, Ok(Receiver { end })),
+            Err(debtor) => (wakes, Err(Leaving { debtor })),
+        }
+    }
+}
+
+impl<T: Drop> Debtor<T> {
+    ghost use Rattle.mb_channel.specs.Polls.{IfSleeps, OfLook, OfPolled};
+    ghost use Rattle.mb_channel.specs.Standing.{NoMore, Standing, stand_with};
+    ghost use Rattle.mb_channel.specs.Work.{IfAsleep};
+    ghost use Rattle.mb_channel.specs.declared.heard.Heard.TheVariants as looked;
+
+    /// What a receiver answers after its look.
+    fn answer(self, heard: Heard<T>) -> Polled<T>
+        requires takes { (view_in self.chair).takes ≡ true }
+        requires receives { 0 < (view_in self.chair).receives }
+        requires sleeps { IfAsleep heard (Sleeps self.busy) }
+        ensures answer { (v : Standing T) → OfLook heard v self → OfPolled result v }
+        ensures sleeps { IfSleeps result (λ a. (a.debtor ≡ self) × (heard ≡ looked.Asleep)) }
+    {
+        match heard {
+            Heard::Asleep => Polled::Sleeps(Asleep { debtor: self }),
+            Heard::Value(value) => match self.rest() {
+                Ok(end) => Polled::Took(Receiver { end }, value),
+                Err(debtor) => Polled::TookOwing(Leaving { debtor }, value),
+            },
+            Heard::Again => self.not_yet(),
+            Heard::Over => self.not_yet(),
+        }
+    }
+
+    /// The answer of a receiver that received nothing, and does not sleep.
+    fn not_yet(self) -> Polled<T>
+        requires takes { (view_in self.chair).takes ≡ true }
+        requires receives { 0 < (view_in self.chair).receives }
+        ensures answer { (v : Standing T) → NoMore v (stand_with self) → OfPolled result v }
+        ensures awake { IfSleeps result (λ _. ⊥) }
+    {
+        match self.rest() {
+            Ok(end) => Polled::Again(Receiver { end }),
+            Err(debtor) => Polled::Owes(Leaving { debtor }),
+        }
+    }
+}

@@ -1,0 +1,89 @@
+//! A send that never waits.
+ghost use Rattle.std.specs.Prelude.{◌≡◌, ◌<◌};
+ghost use Rattle.mb_channel.specs.Homes.{view_in};
+
+use crate::channel::Channel;
+use crate::debtor::{Debtor, Step};
+use crate::end::Sender;
+use crate::sends::NotSent;
+use std::sync::Wait;
+
+/// How often it leaves a segment or comes to one, at most.
+const TRIES: u32 = 4;
+
+/// A sender whose value is sent, and that owes something for it. It cannot be dropped. [`Owing::pay`] and
+/// [`Owing::pay_some`] make a sender of it again.
+pub struct Owing<T: Drop> {
+    pub(crate) debtor: Debtor<T>,
+    ghost sends: { (view_in debtor.chair).sends ≡ 1 },
+}
+
+/// What came of a try to send.
+pub enum Sending<T: Drop> {
+    /// The value is sent, and nothing is owed.
+    Sent(Sender<T>),
+    /// The value is sent, and receivers may have to be woken.
+    Owes(Owing<T>),
+    /// Another sender was first, the lock is taken, or the next segment is not there yet. Yield, and try again.
+    Again(Sender<T>, T),
+    /// The value is not sent. [`Refused::Closed`](crate::Refused::Closed) is told only if the list is closed.
+    Refused(Sender<T>, NotSent<T>),
+}
+
+impl<T: Drop> Channel<T> {
+    ghost use Rattle.mb_channel.specs.Ends.{IsEndOf};
+    ghost use Rattle.mb_channel.specs.Standing.{OfSending, stand_of};
+
+    /// Tries to send a value, behind all that the sender sent before. It makes a few accesses, and wakes nobody.
+    pub fn try_send(&self, sender: Sender<T>, value: T) -> Sending<T>
+        requires channel { IsEndOf self.now sender.end }
+        ensures answer { OfSending result value (stand_of sender.end) }
+    {
+        let Sender { mut end } = sender;
+        let mut value = value;
+        for _ in 0..TRIES {
+            match end.try_send(value) {
+                Step::Sent(end) => return Sending::Sent(Sender { end }),
+                Step::Owes(debtor) => return Sending::Owes(Owing { debtor }),
+                Step::Again(end, value) => return Sending::Again(Sender { end }, value),
+                Step::Over(back, unsent) => {
+                    end = back;
+                    value = unsent;
+                }
+            }
+            if let Err(why) = self.go_on(&mut end, false) {
+                return Sending::Refused(Sender { end }, NotSent { value, why });
+            }
+        }
+        Sending::Again(Sender { end }, value)
+    }
+}
+
+impl<T: Drop> Owing<T> {
+    ghost use Rattle.std.specs.Prelude.{IfErr, IfOk};
+    ghost use Rattle.mb_channel.specs.Standing.{NoMore, stand_of, stand_with};
+
+    /// Gives the tokens that are owed, and wakes a thread for each.
+    pub fn pay<R: Wait>(self, rt: &R) -> Sender<T>
+        ensures { NoMore (stand_with self.debtor) (stand_of result.end) }
+    {
+        let Owing { debtor } = self;
+        Sender {
+            end: debtor.pay(rt),
+        }
+    }
+
+    /// Tries to give one token that is owed, and wakes nobody. If the answer has `true`, the caller has to wake one thread
+    /// that sleeps in the channel. The sender comes back once it owes nothing more.
+    pub fn pay_some(self) -> (bool, Result<Sender<T>, Owing<T>>)
+        ensures paid { IfOk result.1 (λ s. NoMore (stand_with self.debtor) (stand_of s.end)) }
+        ensures owes { IfErr result.1 (λ o. NoMore (stand_with self.debtor) (stand_with o.debtor)) }
+    {
+        let Owing { debtor } = self;
+        let (wakes, rest) = debtor.pay_some();
+        match rest {
+            Ok(end) => (wakes, Ok(Sender { end })),
+            Err(debtor) => (wakes, Err(Owing { debtor })),
+        }
+    }
+}

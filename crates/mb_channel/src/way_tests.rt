@@ -1,0 +1,159 @@
+//! Each answer of the calls that never wait, in one thread.
+ghost use Rattle.std.specs.Prelude.{◌≡◌, IfErr, IfOk};
+ghost use Rattle.mb_channel.specs.Ends.{IsEndOf};
+
+use crate::channel::Channel;
+use crate::end::{Receiver, Sender};
+use crate::polls::{Asleep, Polled};
+use crate::try_sends::Sending;
+use std::sync::Wait;
+use std::test::Fail;
+
+/// What a send answers.
+#[derive(Clone, Copy, PartialEq, Eq, Debug, Drop)]
+enum Sent {
+    Calm,
+    /// A token was given, and a thread has to be woken.
+    Wakes,
+    /// Tokens were owed to all, and nobody slept.
+    All,
+    Not,
+}
+
+fn send<R: Wait>(
+    rt: &R,
+    channel: &Channel<u64>,
+    sender: Sender<u64>,
+    value: u64,
+) -> (Sent, Sender<u64>)
+    requires channel { IsEndOf channel.now sender.end }
+    ensures channel { IsEndOf channel.now result.1.end }
+{
+    match channel.try_send(sender, value) {
+        Sending::Sent(sender) => (Sent::Calm, sender),
+        Sending::Owes(owing) => match owing.pay_some() {
+            (true, Ok(sender)) => (Sent::Wakes, sender),
+            (false, Ok(sender)) => (Sent::All, sender),
+            (_, Err(owing)) => (Sent::Not, owing.pay(rt)),
+        },
+        Sending::Again(sender, _) => (Sent::Not, sender),
+        Sending::Refused(sender, _) => (Sent::Not, sender),
+    }
+}
+
+/// What a receiver has that does not sleep: a value, or none.
+fn awake<R: Wait>(
+    rt: &R,
+    polled: Polled<u64>,
+) -> Result<Asleep<u64>, (Option<u64>, Receiver<u64>)> {
+    match polled {
+        Polled::Took(receiver, value) => Err((Some(value), receiver)),
+        Polled::TookOwing(leaving, value) => Err((Some(value), leaving.pay(rt))),
+        Polled::Sleeps(asleep) => Ok(asleep),
+        Polled::Again(receiver) => Err((None, receiver)),
+        Polled::Owes(leaving) => Err((None, leaving.pay(rt))),
+        Polled::Empty(receiver) => Err((None, receiver)),
+        Polled::Refused(receiver, _) => Err((None, receiver)),
+    }
+}
+
+/// A receiver takes the first value, and falls asleep. A sender gives it a token. It wakes up, and takes the second.
+fn sleep_and_wake<R: Wait>(
+    rt: &R,
+    channel: &Channel<u64>,
+    sender: Sender<u64>,
+    receiver: Receiver<u64>,
+) -> (Option<u64>, Sent, Sent, Option<u64>)
+    requires channel { IsEndOf channel.now sender.end × IsEndOf channel.now receiver.end }
+{
+    let (calm, sender) = send(rt, channel, sender, 7);
+    let (first, receiver) = match channel.poll_receive(receiver) {
+        Polled::Took(receiver, value) => (Some(value), receiver),
+        other => return (drop_all(rt, other), calm, Sent::Not, None),
+    };
+    let asleep = match awake(rt, channel.poll_receive(receiver)) {
+        Ok(asleep) => asleep,
+        Err(_) => return (first, calm, Sent::Not, None),
+    };
+    // No token is there, so it sleeps on.
+    let asleep = match awake(rt, asleep.wake_up()) {
+        Ok(asleep) => asleep,
+        Err(_) => return (first, calm, Sent::Not, None),
+    };
+    let (wakes, sender) = send(rt, channel, sender, 8);
+    drop(sender);
+    let second = drop_all(rt, asleep.wake_up());
+    (first, calm, wakes, second)
+}
+
+/// The value that was received. A receiver that sleeps gives up.
+fn drop_all<R: Wait>(rt: &R, polled: Polled<u64>) -> Option<u64> {
+    match awake(rt, polled) {
+        Ok(asleep) => {
+            drop(asleep.give_up().pay(rt));
+            None
+        }
+        Err((value, receiver)) => {
+            drop(receiver);
+            value
+        }
+    }
+}
+
+/// A receiver falls asleep, gets a token, and gives up. The value is received after that. How often it paid.
+fn give_up_with_a_token<R: Wait>(
+    rt: &R,
+    channel: &Channel<u64>,
+    sender: Sender<u64>,
+    receiver: Receiver<u64>,
+) -> (Sent, u64)
+    requires channel { IsEndOf channel.now sender.end × IsEndOf channel.now receiver.end }
+{
+    let (_, sender) = send(rt, channel, sender, 7);
+    let receiver = match channel.poll_receive(receiver) {
+        Polled::Took(receiver, _) => receiver,
+        other => {
+            drop(drop_all(rt, other));
+            return (Sent::Not, 0);
+        }
+    };
+    let asleep = match awake(rt, channel.poll_receive(receiver)) {
+        Ok(asleep) => asleep,
+        Err(_) => return (Sent::Not, 0),
+    };
+    let (wakes, sender) = send(rt, channel, sender, 8);
+    drop(sender);
+    let mut leaving = asleep.give_up();
+    for times in 1..9 {
+        match leaving.pay_some() {
+            (_, Ok(receiver)) => {
+                drop(receiver);
+                return (wakes, times);
+            }
+            (_, Err(back)) => leaving = back,
+        }
+    }
+    drop(leaving.pay(rt));
+    (wakes, 9)
+}
+
+#[test]
+fn a_sleeper_is_woken(rt: HostRuntime) -> Result<(), Fail> {
+    let (channel, sender, receiver) = Channel::<u64>::new(rt.alloc())?;
+    let (first, calm, wakes, second) = sleep_and_wake(&rt, &channel, sender, receiver);
+    assert!(rt; first == Some(7));
+    assert!(rt; calm == Sent::Calm);
+    assert!(rt; wakes == Sent::Wakes);
+    assert!(rt; second == Some(8));
+    Ok(())
+}
+
+#[test]
+fn a_sleeper_gives_up_with_a_token(rt: HostRuntime) -> Result<(), Fail> {
+    let (channel, sender, receiver) = Channel::<u64>::new(rt.alloc())?;
+    let (wakes, times) = give_up_with_a_token(&rt, &channel, sender, receiver);
+    assert!(rt; wakes == Sent::Wakes);
+    // It stops waiting, leaves with the token, and finds that nobody else sleeps.
+    assert!(rt; times == 3);
+    Ok(())
+}
