@@ -1,15 +1,15 @@
 -- The exchange that claims a position keeps the rule.
-use Rattle.mb_ring.proofs.Base.{Allows, List, Some, [], ap, append_assoc, arith, at_last, at_longer, either, get_elem?, inl, inr, length}
-use Rattle.mb_ring.proofs.Base.{length-append, none, refl, set_else, slice_index, slice_set, some, step, subst, suc, sym, takes, ℕ, ⊎_elim}
+use Rattle.mb_ring.proofs.Base.{Allows, List, Some, [], ap, append_assoc, arith, at_last, at_longer, either, exchanged, get_elem?, inl, inr}
+use Rattle.mb_ring.proofs.Base.{keeps, length, length-append, none, refl, set_else, slice_index, slice_set, some, step, subst, suc, sym, takes, ℕ, ⊎_elim}
 use Rattle.mb_ring.proofs.Base.{◌%◌, ◌*◌, ◌++◌, ◌+◌, ◌<◌, ◌==◌, ◌∙◌, ◌∷◌, ◌≡◌, ◌≢◌, ◌≤◌}
 use Rattle.mb_segment.proofs.Spots.{entries_append, entry_of, size_set, snoc_at, to_other, to_own}
 use Rattle.mb_segment.proofs.Halves.{match_kept, no_hub, no_reads, no_spent, no_writes}
 use Rattle.mb_ring.specs.Vocabulary.{Claim, Duty, Entry, Half, HalfFits, HasHalf, History, Homes, In, Keeps, Member, Nothing, Reads, Sat, Taken}
 use Rattle.mb_ring.specs.Vocabulary.{Undrawn, View, Waiting, Writes, all_entries, claiming, done, drawn, looked, with_duty, entries, got_by}
-use Rattle.mb_ring.specs.Vocabulary.{spot, spots_by, taken, took, turn}
+use Rattle.mb_ring.specs.Vocabulary.{sees_taken, spot, spots_by, taken, took, turn}
 use Rattle.mb_ring.proofs.Turns.{other_slot}
 use Rattle.mb_ring.proofs.Halves.{half_else, half_here, heard_claim, may_take}
-use Rattle.mb_ring.proofs.Kept.{Goes, Next, Same, St, at1, exchanges, moved, resized}
+use Rattle.mb_ring.proofs.Kept.{Goes, Next, Same, St, at1, moved, resized, sees, steps}
 
 -- pass i claims position `old`, the first that waits. It saw that it was marked
 module _ {T : Type 0} (s : St T) (k : Keeps s) (i : ℕ) (v w : View T) (at : get_elem? s.views i ≡ some v) (old : ℕ)
@@ -198,6 +198,7 @@ module _ {T : Type 0} where
           undrawn = claim_undrawn s k i v w at old now_ r idle b bs first refl;
           waits = claim_waits s k i v w at old now_ r idle b bs first refl;
           taken_ = claim_taken s k i v w at old now_ r idle b bs first refl;
+          frozen = λ _. omega arith;
           over = λ _ none_there. absurd (let z : length k.history.rest ≡ 0 = ap length none_there in omega arith);
           role = refl;
           out_ = refl;
@@ -231,6 +232,7 @@ module _ {T : Type 0} where
             heard = heard_claim k.history g old b.value v (omega arith) (omega arith) (omega arith) (omega arith)
                 fit.heard;
             over = λ on. absurd (let y : length k.history.rest ≡ 0 = ap length (fit.over on).1 in omega arith);
+            last = λ _ on. absurd (let y : length k.history.rest ≡ 0 = ap length (fit.over on).1 in omega arith);
           };
         },
         ((λ _. (b.value, refl, refl, may)), λ ne. absurd (ne e)),
@@ -240,9 +242,26 @@ module _ {T : Type 0} where
       → me.0.half ≡ Nothing → me.0.sight.ripe ≡ Some old → new ≡ old + 1
       → Allows Keeps slots i me 1 (λ r. either (r == old) new r) (claiming f (step slots 1 old new none) me)
   claims_as f slots i me old new look role idle ripe is =
-      exchanges 1 (claiming f (step slots 1 old new none) me) slots i me old new
-      (λ s k many at e. first_of f slots i me old new look role idle ripe is s k many at e k.history.rest refl)
-      (λ r ne. ((λ e. absurd (ne e)), λ _. (refl, refl)))
+      steps slots i me 1 (λ r. either (r == old) new r) (claiming f (step slots 1 old new none) me)
+      (λ s k many at. exchanged (slice_index s.words 1) old new
+      (Goes s 1 i me (claiming f (step slots 1 old new none) me))
+      (λ e. first_of f slots i me old new look role idle ripe is s k many at e k.history.rest refl)
+      (λ ne. let now_ = at1 s k in let r = slice_index s.words 1 in let f' = (k.fits i me.0 at).sight in
+      let past = (f'.ripe old ripe).0 in let low_ = f'.low in (
+        sees_taken r me.0,
+        keeps,
+        tt,
+        sees s k 1 i me.0 at me.1 record me.0.sight { low = r } record {
+          low = omega arith;
+          top = f'.top;
+          room = f'.room;
+          ripe = f'.ripe;
+          cut_ = f'.cut_;
+          empty = f'.empty;
+          full = f'.full;
+        } (omega arith),
+        ((λ e. absurd (ne e)), λ _. ((refl, refl), omega arith)),
+      )))
 
   pub claims : (slots i : ℕ) (me : Sat T) (old new : ℕ) → me.0.role ≡ Member → me.0.half ≡ Nothing
       → me.0.sight.ripe ≡ Some old → new ≡ old + 1

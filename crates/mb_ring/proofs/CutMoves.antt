@@ -60,6 +60,7 @@ module _ {T : Type 0} where
           taken_ = λ j c c_at. ⊎_elim
               (λ z. inl (z.0, half_stays s.views i v w at refl c.to (Reads (spot j c.entry.value)) z.1)) (λ z. inr z)
               (k.taken_ j c c_at);
+          frozen = λ _. omega arith;
           over = λ _ none_there. none_there;
           role = refl;
           out_ = refl;
@@ -91,6 +92,7 @@ module _ {T : Type 0} where
             };
             heard = fit.heard;
             over = λ on. (omega arith, (fit.over on).1);
+            last = fit.last;
           };
         },
         ((λ _. (refl, refl)), λ ne. absurd (ne e)),

@@ -190,6 +190,7 @@ module _ {T : Type 0} where
           undrawn = draw_undrawn s k i v at x old now_ free_ idle w refl;
           waits = draw_waits s k i v at x old now_ free_ idle w refl;
           taken_ = draw_taken s k i v at x old now_ free_ idle w refl;
+          frozen = λ cut. absurd (omega arith);
           over = λ cut none_there. absurd (omega arith);
           role = refl;
           out_ = refl;
@@ -222,6 +223,7 @@ module _ {T : Type 0} where
             };
             heard = heard_draw h g old x v (omega arith) (omega arith) (omega arith) fit.heard;
             over = λ on. absurd (let y = (fit.over on).0 in omega arith);
+            last = λ _ on. absurd (let y = (fit.over on).0 in omega arith);
           };
         },
         ((λ _. (refl, refl, may)), λ ne. absurd (ne e)),

@@ -73,6 +73,7 @@ module _ {T : Type 0} where
     pub undrawn : Undrawn x.history k.size x.states x.homes
     pub waits : Waiting x.history (slice_set s.views i w) k.size x.states x.homes
     pub taken_ : Taken x.history (slice_set s.views i w) k.size x.states
+    pub frozen : 0 < k.cut → drawn x.history ≤ drawn k.history
     pub over : 0 < k.cut → k.history.rest ≡ [] → x.history.rest ≡ []
     pub role : w.role ≡ v.role
     pub out_ : w.out ≡ v.out
@@ -117,6 +118,7 @@ module _ {T : Type 0} where
     heard = let a = f.heard.0 in let b = f.heard.1 in let d = o.drawn_ in let m = o.more in
         (omega arith, omega arith, f.heard.2);
     over = λ e. let r = f.over e in let c = o.cut_ in let c' = r.0 in (omega arith, o.over r.0 r.1);
+    last = λ r e. let l = f.last r e in let d = o.frozen (f.over e).0 in omega arith;
   }
 
   pub moved : (s : St T) (k : Keeps s) (i : ℕ) (v w : View T) (x : Next T) → get_elem? s.views i ≡ some v
@@ -215,6 +217,7 @@ module _ {T : Type 0} where
     taken_ = λ j c c_at. ⊎_elim
         (λ z. inl (z.0, half_stays s.views i v w at o.half c.to (Reads (spot j c.entry.value)) z.1)) (λ z. inr z)
         (k.taken_ j c c_at);
+    frozen = λ _. omega arith;
     over = λ c e. e;
     role = o.role;
     out_ = o.out_;
@@ -272,13 +275,14 @@ module _ {T : Type 0} where
     sight = f.sight;
     heard = f.heard;
     over = f.over;
+    last = f.last;
   }
 
   -- a view that saw something more
   pub sighted : (h : History T) (n : ℕ) (states : List ℕ) (cut hub : ℕ) (roll : List ℕ) (i : ℕ) (v : View T) (x : Sight)
-      → Fits h n states cut hub roll i v → SightFits h n states cut x
+      → Fits h n states cut hub roll i v → SightFits h n states cut x → v.sight.low ≤ x.low
       → Fits h n states cut hub roll i record v { sight = x }
-  sighted h n states cut hub roll i v x f y = record {
+  sighted h n states cut hub roll i v x f y low = record {
     member = λ r. let m = f.member r in
         record { sent = m.sent; got = m.got; cut = m.cut; no_hub = m.no_hub; not_back = m.not_back };
     hub_ = λ r. let m = f.hub_ r in
@@ -289,6 +293,7 @@ module _ {T : Type 0} where
     sight = y;
     heard = f.heard;
     over = f.over;
+    last = λ r e. let l = f.last r e in omega arith;
   }
 
   -- ---- the state after a load, and after a step that changes nothing
@@ -301,9 +306,11 @@ module _ {T : Type 0} where
 
   pub sees : (s : St T) (k : Keeps s) (j i : ℕ) (v : View T) → get_elem? s.views i ≡ some v
       → (c : List (ℕ × Option T)) (x : Sight) → SightFits k.history k.size k.states k.cut x
+      → v.sight.low ≤ x.low
       → Keeps (stepped s j (slice_index s.words j) i c record v { sight = x } keeps)
-  sees s k j i v at c x y = loaded s j i c record v { sight = x } (settled s k i v record v { sight = x } at refl refl
-      refl refl (sighted k.history k.size k.states k.cut k.hub k.roll i v x (k.fits i v at) y)
+  sees s k j i v at c x y low =
+      loaded s j i c record v { sight = x } (settled s k i v record v { sight = x } at refl refl refl refl
+      (sighted k.history k.size k.states k.cut k.hub k.roll i v x (k.fits i v at) y low)
       (at_rest s k v record v { sight = x } (now s k) (refl, refl, refl, omega arith, refl)))
 
   pub stays : (s : St T) (k : Keeps s) (j i : ℕ) (v : View T) → get_elem? s.views i ≡ some v

@@ -7,7 +7,7 @@ use Rattle.mb_ring.specs.Vocabulary.{gives_up, goes_unseen, hands_on, has_closed
 use Rattle.mb_ring.specs.Vocabulary.{leaves, leaves_with_token, listed, owed, same, taken, wakes_up}
 use Rattle.mb_ring.specs.Vocabulary.{with_duty}
 use Rattle.mb_ring.proofs.Kept.{Goes, Laws, St, StaysIdle, at2, exchanges, loaded, now, refit, settled, stays, steady}
-use Rattle.mb_ring.proofs.LookMoves.{owing}
+use Rattle.mb_ring.proofs.EmptyMoves.{owing}
 
 module _ {T : Type 0} where
   -- an exchange that leaves t tokens and a waiting

@@ -171,6 +171,7 @@ module _ {T : Type 0} where
               undrawn = mark_undrawn s k i v w at p half y y_is;
               waits = mark_waits s k i v w at p half y y_is;
               taken_ = mark_taken s k i v w at p half y y_is;
+              frozen = λ _. omega arith;
               over = λ f e. e;
               role = refl;
               out_ = refl;
@@ -196,6 +197,7 @@ module _ {T : Type 0} where
                 };
                 heard = fit.heard;
                 over = fit.over;
+                last = fit.last;
               };
             }),
         (refl, refl),

@@ -44,6 +44,7 @@ module _ {T : Type 0} where
     };
     heard = (omega arith, omega arith, (tt, tt, tt));
     over = λ e. absurd (true≢false (sym e));
+    last = λ _ e. absurd (true≢false (sym e));
   }
 
   -- ---- a new ring
@@ -116,6 +117,7 @@ module _ {T : Type 0} where
     sight = f.sight;
     heard = f.heard;
     over = f.over;
+    last = f.last;
   }
 
   pub splits : (n : ℕ) (v : View T) → v.role ≡ Issuer → Splits Keeps n v (issued v) blank
@@ -269,6 +271,7 @@ module _ {T : Type 0} where
           heard = let g = (k.fits other w was_other).heard in
               (f.heard.0, f.heard.1, (f.heard.2.0, f.heard.2.1, (g.2.0, g.2.1, f.heard.2.2)));
           over = λ on. ⊎_elim f.over (k.fits other w was_other).over (either_over v.over w.over on);
+          last = λ r. absurd (no_hub v.role r v_role);
         }
 
         other_fits : j ≢ other → j ≢ n → Fits k.history k.size k.states k.cut k.hub k.roll j u
@@ -288,6 +291,7 @@ module _ {T : Type 0} where
           sight = f.sight;
           heard = f.heard;
           over = f.over;
+          last = f.last;
         }
 
     joined : Keeps record { words = s.words; homes = s.homes; views = two }

@@ -170,6 +170,7 @@ module _ {T : Type 0} where
               undrawn = read_undrawn s k i v w at p half y y_is;
               waits = read_waits s k i v w at p half y y_is;
               taken_ = read_taken s k i v w at p half y y_is;
+              frozen = λ _. omega arith;
               over = λ f e. e;
               role = refl;
               out_ = refl;
@@ -195,6 +196,7 @@ module _ {T : Type 0} where
                 };
                 heard = fit.heard;
                 over = fit.over;
+                last = fit.last;
               };
             }),
         (refl, refl),

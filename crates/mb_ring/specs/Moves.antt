@@ -1,8 +1,8 @@
 -- How a step changes a view.
-use Rattle.std.specs.Prelude.{None, Some, [], false, max, suc, true, ℕ, ◌+◌, ◌++◌, ◌-◌, ◌<◌, ◌∷◌, ◌≡◌}
+use Rattle.std.specs.Prelude.{None, Some, [], false, max, suc, true, ℕ, ◌+◌, ◌++◌, ◌-◌, ◌<◌, ◌∷◌, ◌≡◌, ◌⊎◌}
 use Rattle.mb_segment.specs.History.{spot}
 use Rattle.mb_segment.specs.Moves.{Below, mark_in, or}
-use Rattle.mb_ring.specs.Types.{Duty, Nothing, Reads, View, Writes}
+use Rattle.mb_ring.specs.Types.{Duty, Member, Nothing, Reads, View, Writes}
 use Rattle.mb_ring.specs.Passes.{blank, blind}
 
 -- it owes other things, and is in the list more or less often. What a step does to a duty is told for a segment
@@ -68,18 +68,27 @@ sees_empty n v = record v { sight = record v.sight { empty = n } }
 abbrev pub sees_full : {T : Type 0} → ℕ → View T → View T
 sees_full t v = record v { sight = record v.sight { full = Some t } }
 
--- when it saw the ring empty, all was claimed that it had sent, and the mark that it saw last
+-- when it saw the ring empty, all was claimed that it had sent, and the mark that it saw last. True of a pass that sent
+-- nothing and saw no mark
 abbrev pub SawAllTaken : {T : Type 0} → View T → Type 0
 SawAllTaken v = Below v.sight.empty v.account.sent
     × ((p : ℕ) → v.sight.ripe ≡ Some p → p < v.sight.empty)
 
--- when it saw the ring full, all was counted as claimed that it had received
+-- when it saw the ring full, all was counted as claimed that it had received. True of a pass that received nothing
 abbrev pub SawAllGot : {T : Type 0} → View T → Type 0
 SawAllGot v = (t : ℕ) → v.sight.full ≡ Some t → Below t v.account.got
 
 -- it is told that no value can come any more
 abbrev pub told : {T : Type 0} → View T → View T
 told v = record v { over = true }
+
+-- it was told that the ring is cut, or that no value can come any more
+abbrev pub KnowsCut : {T : Type 0} → View T → Type 0
+KnowsCut v = (v.sight.cut ≡ true) ⊎ (v.over ≡ true)
+
+-- the view is a pass's, which was told that no value can come any more
+abbrev pub KnowsOver : {T : Type 0} → View T → Type 0
+KnowsOver v = (v.role ≡ Member) × (v.over ≡ true)
 
 -- what it was told rules out no claim, and no draw
 abbrev pub MayTake : {T : Type 0} → View T → Type 0

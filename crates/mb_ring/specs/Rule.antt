@@ -33,7 +33,8 @@ pub record IsHub {T : Type 0} (h : History T) (hub : ℕ) (roll : List ℕ) (i :
 abbrev pub Heard : {T : Type 0} → History T → View T → Type 0
 Heard h v = (v.known.drawn ≤ drawn h) × (v.known.taken ≤ taken h) × AllHeed (v.account ∷ v.ends)
 
--- what a pass saw is so. `n` is the number of slots, and `cut` is not 0 once the ring is cut
+-- what a pass saw is so. `n` is the number of slots, and `cut` is not 0 once the ring is cut. Of a ring seen empty or
+-- full only bounds are kept, and not that they were exact at one moment
 pub record SightFits {T : Type 0} (h : History T) (n : ℕ) (states : List ℕ) (cut : ℕ) (x : Sight) : Type 0 where
   pub low : x.low ≤ taken h
   pub top : x.top ≤ drawn h
@@ -53,6 +54,8 @@ pub record Fits {T : Type 0} (h : History T) (n : ℕ) (states : List ℕ) (cut 
   pub sight : SightFits h n states cut v.sight
   pub heard : Heard h v
   pub over : v.over ≡ true → (0 < cut) × (h.rest ≡ [])
+  -- a pass that was told so has loaded how many positions are claimed for good
+  pub last : v.role ≡ Member → v.over ≡ true → drawn h ≤ v.sight.low
 
 pub record Keeps {T : Type 0} (s : State (Option T) (View T)) : Type 0 where
   pub history : History T

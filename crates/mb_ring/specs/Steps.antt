@@ -1,9 +1,9 @@
 -- What each step tells its caller. `r` is the number found, `m` the seat before, `n` the seat after.
-use Rattle.std.specs.Prelude.{None, Option, Some, true, ℕ, ◌%◌, ◌*◌, ◌+◌, ◌<◌, ◌∷◌, ◌≡◌, ◌≢◌, ◌≤◌}
+use Rattle.std.specs.Prelude.{None, Option, Some, ℕ, ◌%◌, ◌*◌, ◌+◌, ◌<◌, ◌∷◌, ◌≡◌, ◌≢◌, ◌≤◌}
 use Rattle.atomic_table.specs.Table.{Me, Step, rest}
 use Rattle.mb_segment.specs.Moves.{owes_wake}
 use Rattle.mb_ring.specs.Types.{Duty, View}
-use Rattle.mb_ring.specs.Moves.{MaySend, MayTake, SawAllGot, SawAllTaken, drew, ended, marked_to, sees_cut, sees_drawn, sees_empty, sees_full, sees_mark}
+use Rattle.mb_ring.specs.Moves.{KnowsCut, KnowsOver, MaySend, MayTake, SawAllGot, SawAllTaken, drew, ended, marked_to, sees_cut, sees_drawn, sees_empty, sees_full, sees_mark}
 use Rattle.mb_ring.specs.Moves.{sees_room, sees_taken, told, took, with_duty}
 
 abbrev pub Sat : Type 0 → Type 0
@@ -32,35 +32,39 @@ drawing x st m r n =
 abbrev pub drawing_picked : {T : Type 0} → Option T → Step (Option T) → Sat T → ℕ → Sat T → Type 0
 drawing_picked {T} picked st m r n = (x : T) → picked ≡ Some x → drawing x st m r n
 
--- the exchange that claims a position takes its slot, which has the value. The pass was not told that none can come
+-- the exchange that claims a position takes its slot, which has the value. The pass was not told that none can come.
+-- If the exchange fails, the position was claimed before
 abbrev pub claiming : {T : Type 0} → (Duty → Duty) → Step (Option T) → Sat T → ℕ → Sat T → Type 0
 claiming {T} f st m r n =
     (r ≡ st.first
     → (x : T) × (n.0 ≡ with_duty f (took st.first x m.0)) × (n.1 ≡ (st.first % st.slots, Some x) ∷ m.1) × MayTake m.0)
-    × (r ≢ st.first → becomes m n m.0)
+    × (r ≢ st.first → becomes m n (sees_taken r m.0) × (st.first < r))
 
 -- a store that gives the slot back
 abbrev pub ending : {T : Type 0} → Step (Option T) → Sat T → ℕ → Sat T → Type 0
 ending st m r n = (n.0 ≡ ended m.0) × (n.1 ≡ rest m.1)
 
--- a load of the number drawn, before a draw. Once it was seen that the ring is cut, each finds it so
+-- a load of the number drawn, before a draw. Once the pass was told that the ring is cut, or over, each finds it cut
 abbrev pub asking : {T : Type 0} → Step (Option T) → Sat T → ℕ → Sat T → Type 0
 asking st m r n =
-    (9223372036854775808 ≤ r → becomes m n (sees_cut m.0)) × (r < 9223372036854775808 → becomes m n (sees_drawn r m.0))
-    × (m.0.sight.cut ≡ true → 9223372036854775808 ≤ r)
+    (9223372036854775808 ≤ r → becomes m n (sees_cut m.0))
+    × (r < 9223372036854775808 → becomes m n (sees_drawn r m.0) × (m.0.known.drawn ≤ r))
+    × (KnowsCut m.0 → 9223372036854775808 ≤ r)
 
--- a load of the word of position k's slot, before a draw: the slot is free for k, or still at the turn before
+-- a load of the word of position k's slot, before a draw: the slot is free for k, or still at
+-- an earlier turn, and then k is not of the first lap
 abbrev pub seeing_room : {T : Type 0} → ℕ → Step (Option T) → Sat T → ℕ → Sat T → Type 0
 seeing_room k st m r n =
     (2 * k ≤ r + 2 * (k % st.slots) → becomes m n (sees_room k m.0))
-    × (r + 2 * (k % st.slots) < 2 * k → becomes m n m.0)
+    × (r + 2 * (k % st.slots) < 2 * k → becomes m n m.0 × (k ≤ m.0.sight.top → st.slots ≤ k))
 
 -- a load of the number claimed, after one of the number drawn: just as many values wait as there are slots, or the number
 -- drawn that was loaded does not tell so
 abbrev pub counting : {T : Type 0} → Step (Option T) → Sat T → ℕ → Sat T → Type 0
 counting st m r n =
     (r + st.slots ≤ m.0.sight.top → becomes m n (sees_full r m.0) × SawAllGot n.0)
-    × (m.0.sight.top < r + st.slots → becomes m n m.0) × (r ≤ 4611686018427387904)
+    × (m.0.sight.top < r + st.slots → becomes m n (sees_taken r m.0)) × (r ≤ 4611686018427387904)
+    × (m.0.known.taken ≤ r) × (m.0.known.drawn ≤ r + st.slots)
 
 -- a load of the number drawn, before a cut
 abbrev pub seeing_cut : {T : Type 0} → Step (Option T) → Sat T → ℕ → Sat T → Type 0
@@ -70,22 +74,26 @@ seeing_cut st m r n =
 
 -- a load of the number claimed, which is not below the position seen marked last
 abbrev pub seeing_taken : {T : Type 0} → Step (Option T) → Sat T → ℕ → Sat T → Type 0
-seeing_taken st m r n = becomes m n (sees_taken r m.0) × (marked_to m.0 ≤ r + 1) × (r ≤ 4611686018427387904)
+seeing_taken st m r n =
+    becomes m n (sees_taken r m.0) × (marked_to m.0 ≤ r + 1) × (r ≤ 4611686018427387904) × (m.0.known.taken ≤ r)
 
--- a load of the word of position k's slot: whether k is marked
+-- a load of the word of position k's slot: whether k is marked. It is not if no value can come
 abbrev pub seeing_mark : {T : Type 0} → ℕ → Step (Option T) → Sat T → ℕ → Sat T → Type 0
 seeing_mark k st m r n =
-    (2 * k < r + 2 * (k % st.slots) → becomes m n (sees_mark k m.0))
+    (2 * k < r + 2 * (k % st.slots) → becomes m n (sees_mark k m.0) × (k < 4611686018427387904))
     × (r + 2 * (k % st.slots) ≤ 2 * k → becomes m n m.0)
+    × (KnowsOver m.0 → m.0.sight.low ≤ k → r + 2 * (k % st.slots) ≤ 2 * k)
 
--- a load of the number drawn, after one of the number claimed: a value waits, or none does yet, or none ever will
+-- a load of the number drawn, after one of the number claimed: the first position that was unclaimed is drawn; or no
+-- value waits; or none ever will
 abbrev pub looking : {T : Type 0} → (Duty → Duty) → (Duty → Duty) → Step (Option T) → Sat T → ℕ → Sat T → Type 0
 looking none_yet none_ever st m r n =
-    (m.0.sight.low < r % 9223372036854775808 → becomes m n m.0)
+    (m.0.sight.low < r % 9223372036854775808 → becomes m n (sees_drawn (r % 9223372036854775808) m.0))
     × (r % 9223372036854775808 ≤ m.0.sight.low → r < 9223372036854775808
-    → becomes m n (sees_empty r (with_duty none_yet m.0)) × SawAllTaken n.0)
+    → becomes m n (sees_empty r (with_duty none_yet m.0)) × SawAllTaken n.0 × (m.0.known.drawn ≤ r))
     × (r % 9223372036854775808 ≤ m.0.sight.low → 9223372036854775808 ≤ r
     → becomes m n (told (with_duty none_ever m.0)))
+    × (KnowsOver m.0 → (r % 9223372036854775808 ≤ m.0.sight.low) × (9223372036854775808 ≤ r))
 
 -- a load of the list: nobody waits without a token, or some do
 abbrev pub if_none_waits : {T : Type 0} → (Duty → Duty) → Step (Option T) → Sat T → ℕ → Sat T → Type 0

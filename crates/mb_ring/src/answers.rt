@@ -5,7 +5,7 @@
 pub enum Draw {
     /// The position is drawn: write the value, and mark it.
     At(u64),
-    /// At a moment of this call as many values waited as the ring has slots.
+    /// As many values waited as the ring has slots. [`crate::Ring::draw`] says what is proved of this.
     Full,
     /// The ring was cut.
     Closed,

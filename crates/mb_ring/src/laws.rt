@@ -42,9 +42,9 @@ pub fn one_taker<T>()
         → v.role ≡ Issuer → Match k.history k.roll v.ends }
 {}
 
-/// At each moment no more values wait than there are slots. Where a sender loaded the number drawn, and then finds as many
-/// fewer claimed as there are slots, just as many values wait at that load. What it was told of that stays true, and all
-/// that it had received by then was claimed by then.
+/// At each moment no more values wait than there are slots. Suppose a sender loaded the number drawn, and then finds so
+/// few claimed that a value waits for each slot. Then exactly as many values wait at that load as there are slots. The
+/// bounds of `full` stay true. All that it had received is below the number claimed that it counted.
 pub fn full_is_true<T>()
     ensures within { (s : RingState T) (k : Keeps s)
         → (claimed_in s ≤ drawn_in s) × (drawn_in s ≤ claimed_in s + length s.homes) }
@@ -72,19 +72,28 @@ pub fn over_is_true<T>()
         → v.sight.cut ≡ true → IsCut s }
 {}
 
-/// A slot is drawn again only after its value was read. While a pass has still to read position p, no position is drawn
-/// that is a lap or more behind. A position that a pass has still to mark waits, and one that was seen marked is drawn. A
-/// ring from which a draw loaded 2^62 draws no more.
-pub fn slots_in_turn<T>()
+/// A slot is not used again too early. As long as a pass still has to mark or read a position, nobody draws the position
+/// that comes a lap later. Meanwhile the one to mark waits, and the one to read is claimed.
+pub fn one_lap<T>()
     ensures reads { (s : RingState T) (k : Keeps s) (n : ℕ) (v : View T) (p : ℕ) (x : T)
         → IsViewOf s n v → v.half ≡ Reads (spot p x)
         → (p < claimed_in s) × (drawn_in s ≤ p + length s.homes) }
     ensures writes { (s : RingState T) (k : Keeps s) (n : ℕ) (v : View T) (p : ℕ) (x : T)
-        → IsViewOf s n v → v.half ≡ Writes (spot p x) → (claimed_in s ≤ p) × (p < drawn_in s) }
-    ensures marked { (s : RingState T) (k : Keeps s) (n : ℕ) (v : View T) (p : ℕ) → IsViewOf s n v
-        → v.sight.ripe ≡ Some p → (p ≤ claimed_in s) × (p < drawn_in s) }
+        → IsViewOf s n v → v.half ≡ Writes (spot p x)
+        → (claimed_in s ≤ p) × (p < drawn_in s) × (drawn_in s ≤ p + length s.homes) }
+{}
+
+/// What a pass loaded stays true. If it loaded that 2^62 positions are drawn, exactly that many are, for good. A position
+/// that it saw marked is drawn, and all positions before it are claimed.
+pub fn seen_is_true<T>()
+    ensures low { (s : RingState T) (k : Keeps s) (n : ℕ) (v : View T) → IsViewOf s n v
+        → v.sight.low ≤ claimed_in s }
+    ensures top { (s : RingState T) (k : Keeps s) (n : ℕ) (v : View T) → IsViewOf s n v
+        → v.sight.top ≤ drawn_in s }
     ensures worn { (s : RingState T) (k : Keeps s) (n : ℕ) (v : View T) → IsViewOf s n v
         → 4611686018427387904 ≤ v.sight.top → drawn_in s ≡ 4611686018427387904 }
+    ensures marked { (s : RingState T) (k : Keeps s) (n : ℕ) (v : View T) (p : ℕ) → IsViewOf s n v
+        → v.sight.ripe ≡ Some p → (p ≤ claimed_in s) × (p < drawn_in s) }
 {}
 
 /// Only a pass cuts the ring, and only one: its account says so. Before a pass is issued, nothing is drawn or cut.

@@ -1,8 +1,8 @@
 //! The calls of receivers.
 ghost use Rattle.std.specs.Prelude.{Some, [], false, true, ℕ, ◌%◌, ◌<◌, ◌∷◌, ◌≡◌, ◌≤◌};
-ghost use Rattle.mb_ring.specs.{Becomes, IsStill, MayTake, Member, Nothing, OfLeave, OfLook, OfRest, Reads, SawAllTaken};
-ghost use Rattle.mb_ring.specs.{bare, done, ended, enters, falls_asleep, held_by, leaves, leaves_with_token, looked, marked_to};
-ghost use Rattle.mb_ring.specs.{sees_empty, sees_mark, spot, told, took, view_in, wakes_up, with_duty};
+ghost use Rattle.mb_ring.specs.{Becomes, IsOver, IsStill, KnowsOver, MayTake, Member, Nothing, OfLeave, OfLook, OfRest, Reads};
+ghost use Rattle.mb_ring.specs.{SawAllTaken, bare, done, ended, enters, falls_asleep, held_by, leaves, leaves_with_token, looked, marked_to};
+ghost use Rattle.mb_ring.specs.{sees_empty, sees_mark, sees_taken, spot, told, took, view_in, wakes_up, with_duty};
 
 use crate::list::LISTED;
 use crate::ring::{Pass, Ring};
@@ -13,23 +13,27 @@ use std::alloc::Allocator;
 use std::marker::Brand;
 
 impl<T: Drop, A: Allocator + Drop> Ring<T, A> {
-    /// Looks for the first value that waits. Where it finds none, all was claimed at that moment that the pass had sent or
-    /// seen marked, in this call or before, and it pays one look that is owed. "Over" comes only if the ring was cut, and
-    /// all is claimed. Three accesses at most.
+    /// Looks for the first value that waits. If it finds none, it pays one look that is owed, and all is claimed that the
+    /// pass had sent or seen marked, in this call or before. Only the body shows that nothing waited at one moment: it
+    /// loads the number claimed first, and the number drawn later. "Over" comes only if the ring was cut, and all is
+    /// claimed. Each later look of the pass answers "Over" too. Three accesses at most.
     pub fn look(&self, pass: &mut Pass<T>) -> Look
         requires ring { pass.old.seat.table_id ≡ self.now.table.shared.table_id }
         ensures pass { IsStill pass.old pass.new }
         ensures held { held_by pass.new ≡ held_by pass.old }
         ensures mark { marked_to (view_in pass.old) ≤ marked_to (view_in pass.new) }
         ensures answer { OfLook result
-            (λ at. (at ≤ 4611686018427387904)
+            (λ at. (at < 4611686018427387904)
             × ((view_in pass.new).sight.ripe ≡ Some at)
             × (bare (view_in pass.new) ≡ bare (sees_mark at (view_in pass.old))))
-            (bare (view_in pass.new) ≡ bare (view_in pass.old))
+            ((bare (view_in pass.new) ≡ bare (view_in pass.old))
+            × ((view_in pass.old).known.taken ≤ (view_in pass.new).sight.low)
+            × ((view_in pass.new).sight.low < (view_in pass.new).sight.top))
             ((n : ℕ) × (bare (view_in pass.new)
             ≡ bare (sees_empty n (with_duty looked (view_in pass.old))))
-            × SawAllTaken (view_in pass.new))
+            × SawAllTaken (view_in pass.new) × ((view_in pass.old).known.drawn ≤ n))
             (bare (view_in pass.new) ≡ bare (told (with_duty looked (view_in pass.old)))) }
+        ensures told { KnowsOver (view_in pass.old) → IsOver result }
     {
         let first = self.load_taken(pass);
         let slot = self.slot_of(first);
@@ -55,14 +59,17 @@ impl<T: Drop, A: Allocator + Drop> Ring<T, A> {
         ensures held { held_by pass.new ≡ held_by pass.old }
         ensures mark { marked_to (view_in pass.old) ≤ marked_to (view_in pass.new) }
         ensures answer { OfLook result
-            (λ at. (at ≤ 4611686018427387904)
+            (λ at. (at < 4611686018427387904)
             × ((view_in pass.new).sight.ripe ≡ Some at)
             × (bare (view_in pass.new) ≡ bare (sees_mark at (view_in pass.old))))
-            (bare (view_in pass.new) ≡ bare (view_in pass.old))
+            ((bare (view_in pass.new) ≡ bare (view_in pass.old))
+            × ((view_in pass.old).known.taken ≤ (view_in pass.new).sight.low)
+            × ((view_in pass.new).sight.low < (view_in pass.new).sight.top))
             ((n : ℕ) × (bare (view_in pass.new)
             ≡ bare (sees_empty n (with_duty falls_asleep (view_in pass.old))))
-            × SawAllTaken (view_in pass.new))
+            × SawAllTaken (view_in pass.new) × ((view_in pass.old).known.drawn ≤ n))
             (bare (view_in pass.new) ≡ bare (told (with_duty done (view_in pass.old)))) }
+        ensures told { KnowsOver (view_in pass.old) → IsOver result }
     {
         let first = self.load_taken(pass);
         let slot = self.slot_of(first);
@@ -79,8 +86,8 @@ impl<T: Drop, A: Allocator + Drop> Ring<T, A> {
         }
     }
 
-    /// Claims the position that a look found. False if another pass was first. It pays one look that is owed.
-    /// The pass has to read the value. One access.
+    /// Claims the position that a look found, and pays one look that is owed. The pass has to read the value. False only
+    /// if another pass had claimed it. One access.
     pub fn claim(&self, pass: &mut Pass<T>, at: u64) -> bool
         requires ring { pass.old.seat.table_id ≡ self.now.table.shared.table_id }
         requires member { (view_in pass.old).role ≡ Member }
@@ -91,7 +98,8 @@ impl<T: Drop, A: Allocator + Drop> Ring<T, A> {
         ensures claimed { result ≡ true → (x : T)
             × (view_in pass.new ≡ with_duty looked (took at x (view_in pass.old)))
             × (held_by pass.new ≡ (at % self.now.size, Some x) ∷ []) }
-        ensures missed { result ≡ false → Becomes pass.old pass.new (view_in pass.old) }
+        ensures missed { result ≡ false → (r : ℕ) × (at < r)
+            × Becomes pass.old pass.new (sees_taken r (view_in pass.old)) }
         ensures may { result ≡ true → MayTake (view_in pass.old) }
     {
         self.claim_from(pass, at, at + 1) == at
@@ -109,7 +117,8 @@ impl<T: Drop, A: Allocator + Drop> Ring<T, A> {
         ensures claimed { result ≡ true → (x : T)
             × (view_in pass.new ≡ with_duty done (took at x (view_in pass.old)))
             × (held_by pass.new ≡ (at % self.now.size, Some x) ∷ []) }
-        ensures missed { result ≡ false → Becomes pass.old pass.new (view_in pass.old) }
+        ensures missed { result ≡ false → (r : ℕ) × (at < r)
+            × Becomes pass.old pass.new (sees_taken r (view_in pass.old)) }
         ensures may { result ≡ true → MayTake (view_in pass.old) }
     {
         self.claim_listed_from(pass, at, at + 1) == at

@@ -1,9 +1,8 @@
 //! The calls of senders.
-ghost use Rattle.std.specs.Prelude.{None, Some, [], true, ℕ, ◌%◌, ◌<◌, ◌∷◌, ◌≡◌, ◌≤◌};
-ghost use Rattle.mb_ring.specs.{Becomes, IsFree, IsStill, MaySend, Member, OfCut, OfDraw, OfWake, OfWakeAll, SawAllGot};
-ghost use Rattle.mb_ring.specs.{Writes, bare, did_cut, drew, ended, has_closed, has_woken, held_by, owes_all, owes_wake};
+ghost use Rattle.std.specs.Prelude.{None, Some, [], ℕ, ◌%◌, ◌+◌, ◌<◌, ◌∷◌, ◌≡◌, ◌≤◌};
+ghost use Rattle.mb_ring.specs.{Becomes, IsClosed, IsFree, IsStill, KnowsCut, MaySend, Member, OfCut, OfDraw, OfWake, OfWakeAll};
+ghost use Rattle.mb_ring.specs.{SawAllGot, Writes, bare, did_cut, drew, ended, has_closed, has_woken, held_by, owes_all, owes_wake};
 ghost use Rattle.mb_ring.specs.{sees_cut, sees_full, spot, view_in, with_duty};
-ghost use Rattle.mb_ring.specs.declared.answers.Draw.TheVariants.{Closed};
 
 use crate::answers::Draw;
 use crate::list::LISTED;
@@ -17,13 +16,15 @@ use std::marker::Brand;
 impl<T: Drop, A: Allocator + Drop> Ring<T, A> {
     /// Draws the next position for this value, which counts as sent from then on. The pass has to mark the position,
     /// and then owes a wake.
-    /// At "Full", as many values waited as there are slots when the last access was made. All that the pass had received
-    /// was claimed then. Three accesses at most.
+    /// "Full" comes with the number claimed at the last access. All that the pass had received is below it, and at least
+    /// as many more positions are drawn as there are slots. Only the body shows that both numbers were exact at one
+    /// moment: it loads the number drawn first, and the number claimed later. If the pass was told before
+    /// that the ring is cut, or that no value can come, the answer is "Closed". Three accesses at most.
     pub fn draw(&self, pass: &mut Pass<T>, value: &T) -> Draw
         requires ring { pass.old.seat.table_id ≡ self.now.table.shared.table_id }
         requires free { IsFree pass.old }
         ensures pass { IsStill pass.old pass.new }
-        ensures told { (view_in pass.old).sight.cut ≡ true → result ≡ Closed }
+        ensures told { KnowsCut (view_in pass.old) → IsClosed result }
         ensures answer { OfDraw result
             (λ at. (at < 4611686018427387904)
             × (held_by pass.new ≡ (at % self.now.size, None) ∷ [])
@@ -31,11 +32,17 @@ impl<T: Drop, A: Allocator + Drop> Ring<T, A> {
             ≡ bare (with_duty owes_wake (drew at value.now (view_in pass.old))))
             × MaySend (view_in pass.old))
             ((t : ℕ) × (bare (view_in pass.new) ≡ bare (sees_full t (view_in pass.old)))
-            × SawAllGot (view_in pass.new) × (held_by pass.new ≡ []))
+            × SawAllGot (view_in pass.new) × (held_by pass.new ≡ [])
+            × ((view_in pass.old).known.taken ≤ t)
+            × ((view_in pass.old).known.drawn ≤ t + self.now.size))
             ((bare (view_in pass.new) ≡ bare (sees_cut (view_in pass.old)))
             × (held_by pass.new ≡ []))
             ((bare (view_in pass.new) ≡ bare (view_in pass.old)) × (held_by pass.new ≡ [])
             × (4611686018427387904 ≤ (view_in pass.new).sight.top))
+            ((bare (view_in pass.new) ≡ bare (view_in pass.old)) × (held_by pass.new ≡ [])
+            × ((view_in pass.old).known.drawn ≤ (view_in pass.new).sight.top)
+            × (self.now.size ≤ (view_in pass.new).sight.top)
+            × ((view_in pass.new).sight.top < (view_in pass.new).sight.low + self.now.size))
             ((bare (view_in pass.new) ≡ bare (view_in pass.old)) × (held_by pass.new ≡ [])) }
     {
         let seen = self.load_to_draw(pass);

@@ -14,9 +14,10 @@ pub struct Sight {
     pub ripe: Option<u64>,
     /// The ring is cut.
     pub cut: bool,
-    /// At a moment at which as many positions as this were drawn, all of them were claimed.
+    /// It saw the ring empty when as many positions as this were drawn. As many are claimed.
     pub empty: u64,
-    /// At a moment at which as many positions as this were claimed, as many values waited as there are slots.
+    /// It saw the ring full when as many positions as this were claimed. As many are claimed, and more are drawn: one for
+    /// each slot.
     pub full: Option<u64>,
 }
 

@@ -16,7 +16,7 @@ use std::time::{Clock, Duration, Instant};
 /// A value that could not be sent.
 #[derive(Debug, Drop)]
 pub enum NotSent<T> {
-    /// At a moment of the call as many values waited as the ring has slots.
+    /// As many values waited as the ring has slots. [`Ring::draw`] says what is proved of this.
     Full(T),
     /// The ring was cut.
     Closed(T),

@@ -1,6 +1,7 @@
 //! Each atomic step on the numbers drawn and claimed, and on the words of the slots.
-ghost use Rattle.std.specs.Prelude.{List, None, Option, Some, [], true, ℕ, ◌%◌, ◌*◌, ◌+◌, ◌<◌, ◌∷◌, ◌≡◌, ◌≢◌, ◌≤◌};
-ghost use Rattle.mb_ring.specs.{Becomes, IsStill, MaySend, MayTake, Member, Nothing, SawAllGot, SawAllTaken, did_cut, done};
+ghost use Rattle.std.specs.Prelude.{List, None, Option, Some, [], ℕ, ◌%◌, ◌*◌, ◌+◌, ◌<◌, ◌∷◌, ◌≡◌, ◌≢◌, ◌≤◌};
+ghost use Rattle.mb_ring.specs.{Becomes, IsStill, KnowsCut, KnowsOver, MaySend, MayTake, Member, Nothing, SawAllGot, SawAllTaken};
+ghost use Rattle.mb_ring.specs.{did_cut, done};
 ghost use Rattle.mb_ring.specs.{drew, falls_asleep, held_by, looked, marked_to, owes_all, owes_wake, sees_cut, sees_drawn};
 ghost use Rattle.mb_ring.specs.{sees_empty, sees_full, sees_mark, sees_room, sees_taken, told, took, view_in, with_duty};
 
@@ -49,8 +50,9 @@ impl<T: Drop, A: Allocator + Drop> Ring<T, A> {
         ensures cut { 9223372036854775808 ≤ result
             → Becomes pass.old pass.new (sees_cut (view_in pass.old)) }
         ensures open { result < 9223372036854775808
-            → Becomes pass.old pass.new (sees_drawn result (view_in pass.old)) }
-        ensures told { (view_in pass.old).sight.cut ≡ true → 9223372036854775808 ≤ result }
+            → Becomes pass.old pass.new (sees_drawn result (view_in pass.old))
+            × ((view_in pass.old).known.drawn ≤ result) }
+        ensures told { KnowsCut (view_in pass.old) → 9223372036854775808 ≤ result }
     {
         self.table.shared.load::<Asks>(&mut pass.seat, DRAWN)
     }
@@ -64,7 +66,8 @@ impl<T: Drop, A: Allocator + Drop> Ring<T, A> {
         ensures pass { IsStill pass.old pass.new }
         ensures free { 2 * at ≤ result + 2 * slot
             → Becomes pass.old pass.new (sees_room at (view_in pass.old)) }
-        ensures busy { result + 2 * slot < 2 * at → Becomes pass.old pass.new (view_in pass.old) }
+        ensures busy { result + 2 * slot < 2 * at → Becomes pass.old pass.new (view_in pass.old)
+            × (at ≤ (view_in pass.old).sight.top → self.now.size ≤ at) }
     {
         self.table
             .shared
@@ -79,8 +82,10 @@ impl<T: Drop, A: Allocator + Drop> Ring<T, A> {
             → Becomes pass.old pass.new (sees_full result (view_in pass.old))
             × SawAllGot (view_in pass.new) }
         ensures room { (view_in pass.old).sight.top < result + self.now.size
-            → Becomes pass.old pass.new (view_in pass.old) }
+            → Becomes pass.old pass.new (sees_taken result (view_in pass.old)) }
         ensures most { result ≤ 4611686018427387904 }
+        ensures known { ((view_in pass.old).known.taken ≤ result)
+            × ((view_in pass.old).known.drawn ≤ result + self.now.size) }
     {
         self.table.shared.load::<Counts>(&mut pass.seat, TAKEN)
     }
@@ -149,6 +154,7 @@ impl<T: Drop, A: Allocator + Drop> Ring<T, A> {
         ensures low { Becomes pass.old pass.new (sees_taken result (view_in pass.old)) }
         ensures mark { marked_to (view_in pass.old) ≤ result + 1 }
         ensures most { result ≤ 4611686018427387904 }
+        ensures known { (view_in pass.old).known.taken ≤ result }
     {
         self.table.shared.load::<SeesTaken>(&mut pass.seat, TAKEN)
     }
@@ -162,9 +168,12 @@ impl<T: Drop, A: Allocator + Drop> Ring<T, A> {
         requires low { at ≤ (view_in pass.old).sight.low }
         ensures pass { IsStill pass.old pass.new }
         ensures marked { 2 * at < result + 2 * slot
-            → Becomes pass.old pass.new (sees_mark at (view_in pass.old)) }
+            → Becomes pass.old pass.new (sees_mark at (view_in pass.old))
+            × (at < 4611686018427387904) }
         ensures unmarked { result + 2 * slot ≤ 2 * at
             → Becomes pass.old pass.new (view_in pass.old) }
+        ensures over { KnowsOver (view_in pass.old) → (view_in pass.old).sight.low ≤ at
+            → result + 2 * slot ≤ 2 * at }
     {
         self.table
             .shared
@@ -176,14 +185,18 @@ impl<T: Drop, A: Allocator + Drop> Ring<T, A> {
         requires ring { pass.old.seat.table_id ≡ self.now.table.shared.table_id }
         ensures pass { IsStill pass.old pass.new }
         ensures some { (view_in pass.old).sight.low < result % 9223372036854775808
-            → Becomes pass.old pass.new (view_in pass.old) }
+            → Becomes pass.old pass.new
+            (sees_drawn (result % 9223372036854775808) (view_in pass.old)) }
         ensures empty { result % 9223372036854775808 ≤ (view_in pass.old).sight.low
             → result < 9223372036854775808
             → Becomes pass.old pass.new (sees_empty result (with_duty looked (view_in pass.old)))
-            × SawAllTaken (view_in pass.new) }
+            × SawAllTaken (view_in pass.new) × ((view_in pass.old).known.drawn ≤ result) }
         ensures over { result % 9223372036854775808 ≤ (view_in pass.old).sight.low
             → 9223372036854775808 ≤ result
             → Becomes pass.old pass.new (told (with_duty looked (view_in pass.old))) }
+        ensures told { KnowsOver (view_in pass.old)
+            → (result % 9223372036854775808 ≤ (view_in pass.old).sight.low)
+            × (9223372036854775808 ≤ result) }
     {
         self.table
             .shared
@@ -196,15 +209,19 @@ impl<T: Drop, A: Allocator + Drop> Ring<T, A> {
         requires fresh { 0 < (view_in pass.old).duty.fresh }
         ensures pass { IsStill pass.old pass.new }
         ensures some { (view_in pass.old).sight.low < result % 9223372036854775808
-            → Becomes pass.old pass.new (view_in pass.old) }
+            → Becomes pass.old pass.new
+            (sees_drawn (result % 9223372036854775808) (view_in pass.old)) }
         ensures empty { result % 9223372036854775808 ≤ (view_in pass.old).sight.low
             → result < 9223372036854775808
             → Becomes pass.old pass.new
             (sees_empty result (with_duty falls_asleep (view_in pass.old)))
-            × SawAllTaken (view_in pass.new) }
+            × SawAllTaken (view_in pass.new) × ((view_in pass.old).known.drawn ≤ result) }
         ensures over { result % 9223372036854775808 ≤ (view_in pass.old).sight.low
             → 9223372036854775808 ≤ result
             → Becomes pass.old pass.new (told (with_duty done (view_in pass.old))) }
+        ensures told { KnowsOver (view_in pass.old)
+            → (result % 9223372036854775808 ≤ (view_in pass.old).sight.low)
+            × (9223372036854775808 ≤ result) }
     {
         self.table
             .shared
@@ -223,7 +240,8 @@ impl<T: Drop, A: Allocator + Drop> Ring<T, A> {
             × (view_in pass.new ≡ with_duty looked (took at x (view_in pass.old)))
             × (held_by pass.new ≡ (at % self.now.size, Some x) ∷ held_by pass.old)
             × MayTake (view_in pass.old) }
-        ensures missed { result ≢ at → Becomes pass.old pass.new (view_in pass.old) }
+        ensures missed { result ≢ at
+            → Becomes pass.old pass.new (sees_taken result (view_in pass.old)) × (at < result) }
     {
         self.table
             .shared
@@ -243,7 +261,8 @@ impl<T: Drop, A: Allocator + Drop> Ring<T, A> {
             × (view_in pass.new ≡ with_duty done (took at x (view_in pass.old)))
             × (held_by pass.new ≡ (at % self.now.size, Some x) ∷ held_by pass.old)
             × MayTake (view_in pass.old) }
-        ensures missed { result ≢ at → Becomes pass.old pass.new (view_in pass.old) }
+        ensures missed { result ≢ at
+            → Becomes pass.old pass.new (sees_taken result (view_in pass.old)) × (at < result) }
     {
         self.table
             .shared

@@ -1,5 +1,5 @@
 use Rattle.std.proofs.Common.{arith}
-use Rattle.mb_ring.proofs.LookMoves.{looks}
+use Rattle.mb_ring.proofs.EmptyMoves.{looks}
 use Rattle.mb_ring.proofs.ring.Ring.load_drawn.Goals as goal
 
 pub load-requires : goal.load-requires

@@ -1,5 +1,5 @@
 use Rattle.std.proofs.Common.{arith}
-use Rattle.mb_ring.proofs.LookMoves.{looks_listed}
+use Rattle.mb_ring.proofs.EmptyMoves.{looks_listed}
 use Rattle.mb_ring.proofs.ring.Ring.load_drawn_listed.Goals as goal
 
 pub load-requires : goal.load-requires
