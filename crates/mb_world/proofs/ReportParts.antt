@@ -43,7 +43,7 @@ once_apart (x ∷ xs) ys k once (inl e) there =
 once_apart (x ∷ xs) ys k once (inr m) there = once_apart xs ys k once.1 m there
 
 -- ---- the cells that have notes
--- each cell in `closed`, the cells met whose claims have notes, was met
+-- `closed` lists the cells met whose claims have notes, so each cell in it was met
 pub closed_has : (ks : List ℕ) (z : Option (List ObjectTurn)) (k : ℕ) → Has (closed ks z) k → Has ks k
 closed_has ks None k has = has
 closed_has [] (Some xs) k has = absurd has
@@ -57,7 +57,7 @@ closed_at [] (Some xs) j k at less = absurd at
 closed_at (q ∷ qs) (Some xs) j k (inl at) less = absurd (omega (arith, at.0, less))
 closed_at (q ∷ qs) (Some xs) j k (inr at) less = at_has qs j k at
 
--- if later cells, and then the cells met, make up the lane's list, so do later cells, and then those in `closed`
+-- if the lane's list is some later cells and then the cells met, it is also some later cells and then those in `closed`
 pub closed_cut : (ks : List ℕ) (z : Option (List ObjectTurn)) (later ls : List ℕ) → later ++ ks ≡ ls
     → (late : List ℕ) × (late ++ closed ks z ≡ ls)
 closed_cut ks None later ls e = (later, e)

@@ -58,8 +58,8 @@ impl Gate for PollInALeave {
     }
 }
 
-/// In a new mailbox of one cell a worker puts the item 5, and a consumer polls, whose words are counted at the gate.
-/// Checks that the gate stops one worker, and that the report has this text.
+/// Runs a producer and a consumer on a new mailbox with one cell. The producer puts the item 5, and the gate can see how
+/// many words the consumer draws. Checks that one worker was stopped, and that the report has this text.
 fn stop_one<R: Abort + AllocGlobal + Threads + Wait + Sync>(
     rt: &R,
     gate: &PollInALeave,
@@ -75,7 +75,7 @@ fn stop_one<R: Abort + AllocGlobal + Threads + Wait + Sync>(
     ends(rt, alloc, trial, report);
 }
 
-// What is seen while the put leaves the gate, and when the poll leaves it, shows that their accesses were made.
+// When a call leaves the gate, it has made its accesses: the item of the put is there, and the poll's words are drawn.
 #[test]
 fn a_call_is_told_of_after_its_accesses(rt: HostRuntime) {
     let gate = PollInALeave {
