@@ -108,6 +108,7 @@ first_view = record {
   live = false;
   number = 0;
   visits = [];
+  gave = 0;
   inside = false;
   at = 0;
   place = None;
@@ -276,8 +277,7 @@ both v w = record v {
   last = told_or v.last w.last;
 }
 
--- an end that was not there before. It begins where its maker is, counts for so many senders and receivers, and knows as
--- much of the list's end
+-- a new end begins where its maker is, counts for so many senders and receivers, and knows as much of the list's end
 abbrev pub newborn_view : {T : Type 0} → ℕ → ℕ → Knows T → Knows T
 newborn_view a b v = record first_view {
   at = v.at;
@@ -299,6 +299,7 @@ splits_off a b v = record v { rights = v.rights - 1; sends = v.sends - a; receiv
 abbrev pub left_segment : {T : Type 0} → View T → Bool → Knows T → Knows T
 left_segment x done v = record v {
   visits = record { segment = v.at; account = x.account } ∷ v.visits;
+  gave = v.gave + x.tokens.gave;
   inside = false;
   at = suc v.at;
   takes = v.takes && done;

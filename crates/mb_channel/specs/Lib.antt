@@ -13,6 +13,7 @@ pub mod Owing
 pub mod Work
 pub mod Standing
 pub mod Polls
+pub mod Wakes
 pub mod Told
 pub mod Receives
 pub mod Rests

@@ -1,4 +1,5 @@
 //! A try to send a value in a segment, which never waits.
+ghost use Rattle.mb_channel.specs.Wakes.{Tells, after_attempt, wakes_in};
 ghost use Rattle.mb_channel.specs.Work.{OfAttempt, work_in};
 
 use crate::busy::{Busy, Debt};
@@ -20,7 +21,8 @@ pub enum Attempt<T: Drop> {
 impl<T: Drop> Inside<T> {
     /// Tries to send a value here.
     pub(crate) fn try_send(self, value: T) -> Attempt<T>
-        ensures { OfAttempt result value (work_in self) }
+        ensures answer { OfAttempt result value (work_in self) }
+        ensures wakes { Tells 0 (wakes_in self) (after_attempt result) }
     {
         let Inside { segment, pass } = self;
         let mut pass = pass.pass();

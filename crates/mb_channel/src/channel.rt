@@ -33,6 +33,7 @@ impl<T: Drop> Channel<T> {
     ghost use Rattle.mb_channel.specs.Answers.{IfClosed};
     ghost use Rattle.mb_channel.specs.Receives.{FoundNone, IsLater};
     ghost use Rattle.mb_channel.specs.Ends.{IsBehind, IsEndOf, IsOver, IsSame, SawOver, got_by, sent_by, view_of};
+    ghost use Rattle.mb_channel.specs.Wakes.{Tells, wakes_of};
 
     /// Adds a segment where the end is, if there is none yet.
     fn append(&self, end: &mut End<T>) -> Result<(), Refused>
@@ -42,6 +43,7 @@ impl<T: Drop> Channel<T> {
         ensures later { IsLater end.old end.new }
         ensures sent { sent_by end.new ≡ sent_by end.old }
         ensures got { got_by end.new ≡ got_by end.old }
+        ensures wakes { Tells 0 (wakes_of end.old) (wakes_of end.new) }
         ensures takes { (view_of end.new).takes ≡ (view_of end.old).takes }
         ensures closed { IfErr result (λ why. IfClosed why ((view_of end.new).shut ≡ true)) }
     {
@@ -66,6 +68,7 @@ impl<T: Drop> Channel<T> {
         ensures later { IsLater end.old end.new }
         ensures sent { sent_by end.new ≡ sent_by end.old }
         ensures got { got_by end.new ≡ got_by end.old }
+        ensures wakes { Tells 0 (wakes_of end.old) (wakes_of end.new) }
         ensures takes { takes ≡ true → (view_of end.new).takes ≡ true }
         ensures none { IfOk result (λ there. there ≡ false → FoundNone end.new) }
         ensures closed { IfErr result (λ why. IfClosed why (IsBehind end.new)) }
@@ -101,6 +104,7 @@ impl<T: Drop> Channel<T> {
         ensures later { IsLater end.old end.new }
         ensures sent { sent_by end.new ≡ sent_by end.old }
         ensures got { got_by end.new ≡ got_by end.old }
+        ensures wakes { Tells 0 (wakes_of end.old) (wakes_of end.new) }
         ensures takes { takes ≡ true → (view_of end.new).takes ≡ true }
         ensures none { IfOk result (λ there. there ≡ false → FoundNone end.new) }
         ensures behind { takes ≡ true → IfErr result (λ why. IfClosed why (IsBehind end.new)) }
@@ -123,6 +127,7 @@ impl<T: Drop> Channel<T> {
         ensures later { IsLater end.old end.new }
         ensures sent { sent_by end.new ≡ sent_by end.old }
         ensures got { got_by end.new ≡ got_by end.old }
+        ensures wakes { Tells 0 (wakes_of end.old) (wakes_of end.new) }
         ensures takes { (view_of end.old).takes ≡ true → IsOver end.old
             → (view_of end.new).takes ≡ true }
         ensures left { result ≡ true → is_some end.new.inside ≡ false }
@@ -160,6 +165,7 @@ impl<T: Drop> Channel<T> {
         ensures later { IsLater end.old end.new }
         ensures sent { sent_by end.new ≡ sent_by end.old }
         ensures got { got_by end.new ≡ got_by end.old }
+        ensures wakes { Tells 0 (wakes_of end.old) (wakes_of end.new) }
         ensures takes { takes ≡ true → (view_of end.new).takes ≡ true }
         ensures none { IfOk result (λ there. there ≡ false → FoundNone end.new) }
         ensures behind { takes ≡ true → IfErr result (λ why. IfClosed why (IsBehind end.new)) }

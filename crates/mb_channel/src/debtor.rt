@@ -39,10 +39,12 @@ pub enum Step<T: Drop> {
 
 impl<T: Drop> End<T> {
     ghost use Rattle.mb_channel.specs.Standing.{OfStep, stand_of};
+    ghost use Rattle.mb_channel.specs.Wakes.{Tells, after_step, wakes_of};
 
     /// Tries to send a value in the segment where the end is.
     pub(crate) fn try_send(self, value: T) -> Step<T>
-        ensures { OfStep result value (stand_of self) }
+        ensures answer { OfStep result value (stand_of self) }
+        ensures wakes { Tells 0 (wakes_of self) (after_step result) }
     {
         if self.inside.is_none() {
             return Step::Over(self, value);
@@ -87,6 +89,7 @@ impl<T: Drop> End<T> {
 impl<T: Drop> Debtor<T> {
     ghost use Rattle.std.specs.Prelude.{IfErr, IfOk};
     ghost use Rattle.mb_channel.specs.Standing.{NoMore, stand_of, stand_with};
+    ghost use Rattle.mb_channel.specs.Wakes.{Tells, one_if, wakes_of, wakes_with};
 
     /// Pays all, and wakes the threads.
     pub(crate) fn pay<R: Wait>(self, rt: &R) -> End<T>
@@ -115,6 +118,8 @@ impl<T: Drop> Debtor<T> {
             × (e.chair ≡ self.chair)) }
         ensures owes { IfErr result (λ d. NoMore (stand_with self) (stand_with d)
             × (d.chair ≡ self.chair)) }
+        ensures wakes { IfOk result (λ e. Tells 0 (wakes_with self) (wakes_of e)) }
+        ensures still { IfErr result (λ d. Tells 0 (wakes_with self) (wakes_with d)) }
     {
         let Debtor {
             chair,
@@ -148,6 +153,10 @@ impl<T: Drop> Debtor<T> {
             × (e.chair ≡ self.chair)) }
         ensures owes { IfErr result.1 (λ d. NoMore (stand_with self) (stand_with d)
             × (d.chair ≡ self.chair)) }
+        ensures wakes { IfOk result.1
+            (λ e. Tells (one_if result.0) (wakes_with self) (wakes_of e)) }
+        ensures still { IfErr result.1
+            (λ d. Tells (one_if result.0) (wakes_with self) (wakes_with d)) }
     {
         let mut debtor = self;
         let wakes = debtor.busy.pay_some();

@@ -1,6 +1,7 @@
 //! The looks of a receiver that never waits, in its segment.
 ghost use Rattle.std.specs.Prelude.{◌≡◌};
 ghost use Rattle.mb_channel.specs.Receives.{found_in};
+ghost use Rattle.mb_channel.specs.Wakes.{Tells, wakes_by, wakes_in};
 ghost use Rattle.mb_channel.specs.Work.{IfAsleep, OfHeard, SawNothing, found_of, work_in, work_of};
 ghost use Rattle.mb_channel.specs.declared.busy.Debt.TheVariants as owed;
 
@@ -24,6 +25,7 @@ impl<T: Drop> Inside<T> {
     /// Looks for a value here. If none is there, it enters the list of those that wait, and looks again.
     pub(crate) fn poll(self) -> (Busy<T>, Heard<T>)
         ensures looked { OfHeard result.1 (work_in self) result.0 }
+        ensures wakes { Tells 0 (wakes_in self) (wakes_by result.0) }
         ensures saw { IfAsleep result.1 (SawNothing (found_in self) result.0) }
     {
         let Inside { segment, pass } = self;
@@ -42,6 +44,7 @@ impl<T: Drop> Busy<T> {
     fn look_first(&mut self) -> Heard<T>
         requires nothing { self.old.debt ≡ owed.Nothing }
         ensures looked { OfHeard result (work_of self.old) self.new }
+        ensures wakes { Tells 0 (wakes_by self.old) (wakes_by self.new) }
         ensures saw { IfAsleep result (SawNothing (found_of self.old) self.new) }
     {
         match self.segment.look(&mut self.pass) {
@@ -62,6 +65,7 @@ impl<T: Drop> Busy<T> {
     fn enter(&mut self) -> Heard<T>
         requires nothing { self.old.debt ≡ owed.Nothing }
         ensures looked { OfHeard result (work_of self.old) self.new }
+        ensures wakes { Tells 0 (wakes_by self.old) (wakes_by self.new) }
         ensures saw { IfAsleep result (SawNothing (found_of self.old) self.new) }
     {
         if !self.segment.enter(&mut self.pass) {
@@ -75,6 +79,7 @@ impl<T: Drop> Busy<T> {
     fn look_listed(&mut self) -> Heard<T>
         requires fresh { self.old.debt ≡ owed.Fresh }
         ensures looked { OfHeard result (work_of self.old) self.new }
+        ensures wakes { Tells 0 (wakes_by self.old) (wakes_by self.new) }
         ensures saw { IfAsleep result (SawNothing (found_of self.old) self.new) }
     {
         match self.segment.look_listed(&mut self.pass) {
@@ -103,7 +108,8 @@ impl<T: Drop> Busy<T> {
     /// One that sleeps takes a token, and looks. It sleeps on if no token is there.
     pub(crate) fn wake_up(&mut self) -> Heard<T>
         requires asleep { self.old.debt ≡ owed.Asleep }
-        ensures { OfHeard result (work_of self.old) self.new }
+        ensures looked { OfHeard result (work_of self.old) self.new }
+        ensures wakes { Tells 0 (wakes_by self.old) (wakes_by self.new) }
     {
         if self.segment.accept(&mut self.pass) != Rest::Woken {
             return Heard::Asleep;
@@ -115,7 +121,8 @@ impl<T: Drop> Busy<T> {
     /// Looks, for a token that it took.
     fn look_woken(&mut self) -> Heard<T>
         requires look { self.old.debt ≡ owed.Look }
-        ensures { OfHeard result (work_of self.old) self.new }
+        ensures looked { OfHeard result (work_of self.old) self.new }
+        ensures wakes { Tells 0 (wakes_by self.old) (wakes_by self.new) }
     {
         match self.segment.look(&mut self.pass) {
             Look::Ready(at) => {

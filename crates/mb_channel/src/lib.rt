@@ -41,6 +41,8 @@ mod rule;
 pub mod samples;
 mod sends;
 #[cfg(test)]
+mod sleep_tests;
+#[cfg(test)]
 mod tests;
 mod tried;
 mod try_sends;

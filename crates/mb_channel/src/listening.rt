@@ -4,6 +4,7 @@ ghost use Rattle.mb_channel.specs.Ends.{IsOver, view_of};
 ghost use Rattle.mb_channel.specs.Polls.{OfLook};
 ghost use Rattle.mb_channel.specs.Receives.{found_there};
 ghost use Rattle.mb_channel.specs.Standing.{stand_of, stand_with};
+ghost use Rattle.mb_channel.specs.Wakes.{Tells, wakes_of, wakes_with};
 ghost use Rattle.mb_channel.specs.Work.{IfAsleep, SawNothing, Sleeps};
 
 use crate::debtor::Debtor;
@@ -20,6 +21,7 @@ impl<T: Drop> End<T> {
         ensures saw { IfOk result (λ r. IfAsleep r.1
             (SawNothing (found_there self.inside) r.0.busy)) }
         ensures back { IfErr result (λ e. (e ≡ self) × IsOver e) }
+        ensures wakes { IfOk result (λ r. Tells 0 (wakes_of self) (wakes_with r.0)) }
     {
         let End {
             chair,
@@ -68,6 +70,7 @@ impl<T: Drop> Debtor<T> {
         requires asleep { Sleeps self.busy }
         ensures looked { OfLook result.1 (stand_with self) result.0 }
         ensures chair { result.0.chair ≡ self.chair }
+        ensures wakes { Tells 0 (wakes_with self) (wakes_with result.0) }
     {
         let Debtor {
             chair,

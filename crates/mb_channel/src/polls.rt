@@ -3,11 +3,13 @@ ghost use Rattle.std.specs.Prelude.{◌≡◌, ◌<◌, true};
 ghost use Rattle.mb_channel.specs.Homes.{view_in};
 ghost use Rattle.mb_channel.specs.Work.{Sleeps};
 
+use crate::busy::Busy;
 use crate::channel::{Channel, Refused};
 use crate::debtor::Debtor;
 use crate::end::Receiver;
 use crate::heard::Heard;
 use std::sync::Wait;
+use std::time::{Clock, Instant};
 
 /// How often it leaves a segment or comes to one, at most.
 const TRIES: u32 = 4;
@@ -34,7 +36,7 @@ pub enum Polled<T: Drop> {
     Took(Receiver<T>, T),
     /// A value was received, and something is owed.
     TookOwing(Leaving<T>, T),
-    /// No value is there. Sleep until a thread is woken for a sender, and then call [`Asleep::wake_up`].
+    /// No value is there. Let the thread sleep ([`Asleep::sleep`]), and then call [`Asleep::wake_up`].
     Sleeps(Asleep<T>),
     /// A value is being sent, another end was first, or the lock is taken. Yield, and try again.
     Again(Receiver<T>),
@@ -50,12 +52,14 @@ impl<T: Drop> Channel<T> {
     ghost use Rattle.mb_channel.specs.Ends.{IsEndOf};
     ghost use Rattle.mb_channel.specs.Polls.{FoundEmpty, IfSleeps, OfPolled};
     ghost use Rattle.mb_channel.specs.Standing.{stand_of};
+    ghost use Rattle.mb_channel.specs.Wakes.{Tells, after_polled, wakes_of};
 
     /// Tries to receive the next value. If none is there, the receiver enters the list of those that wait, and looks
     /// again. It makes a few accesses, and never waits itself.
     pub fn poll_receive(&self, receiver: Receiver<T>) -> Polled<T>
         requires channel { IsEndOf self.now receiver.end }
         ensures answer { OfPolled result (stand_of receiver.end) }
+        ensures wakes { Tells 0 (wakes_of receiver.end) (after_polled result) }
         ensures saw { IfSleeps result (λ a. FoundEmpty receiver.end a.debtor) }
     {
         let Receiver { mut end } = receiver;
@@ -77,10 +81,24 @@ impl<T: Drop> Channel<T> {
 impl<T: Drop> Asleep<T> {
     ghost use Rattle.mb_channel.specs.Polls.{OfPolled};
     ghost use Rattle.mb_channel.specs.Standing.{NoMore, stand_with};
+    ghost use Rattle.mb_channel.specs.Wakes.{Tells, after_polled, wakes_with};
+
+    /// Lets the thread sleep until a token is there, or for no reason. It changes nothing: call [`Asleep::wake_up`] next.
+    pub fn sleep<R: Wait>(&self, rt: &R) {
+        let Busy { segment, pass, .. } = &self.debtor.busy;
+        segment.park(rt, pass);
+    }
+
+    /// The same until a deadline. It is `false` if that has come, or if there is no clock.
+    pub fn sleep_by<R: Wait + Clock>(&self, rt: &R, deadline: Instant) -> bool {
+        let Busy { segment, pass, .. } = &self.debtor.busy;
+        segment.park_by(rt, pass, deadline)
+    }
 
     /// Takes a token, if one is there, and looks. Else it sleeps on.
     pub fn wake_up(self) -> Polled<T>
         ensures answer { OfPolled result (stand_with self.debtor) }
+        ensures wakes { Tells 0 (wakes_with self.debtor) (after_polled result) }
     {
         let Asleep { debtor } = self;
         let (debtor, heard) = debtor.wake_up();
@@ -90,6 +108,7 @@ impl<T: Drop> Asleep<T> {
     /// Stops waiting. It has still to leave the list.
     pub fn give_up(self) -> Leaving<T>
         ensures still { NoMore (stand_with self.debtor) (stand_with result.debtor) }
+        ensures wakes { Tells 0 (wakes_with self.debtor) (wakes_with result.debtor) }
     {
         let Asleep { debtor } = self;
         Leaving { debtor }
@@ -99,6 +118,7 @@ impl<T: Drop> Asleep<T> {
 impl<T: Drop> Leaving<T> {
     ghost use Rattle.std.specs.Prelude.{IfErr, IfOk};
     ghost use Rattle.mb_channel.specs.Standing.{NoMore, stand_of, stand_with};
+    ghost use Rattle.mb_channel.specs.Wakes.{Tells, one_if, wakes_of, wakes_with};
 
     /// Leaves the list, and gives the tokens that are owed. It wakes a thread for each.
     pub fn pay<R: Wait>(self, rt: &R) -> Receiver<T>
@@ -115,6 +135,10 @@ impl<T: Drop> Leaving<T> {
     pub fn pay_some(self) -> (bool, Result<Receiver<T>, Leaving<T>>)
         ensures paid { IfOk result.1 (λ r. NoMore (stand_with self.debtor) (stand_of r.end)) }
         ensures owes { IfErr result.1 (λ l. NoMore (stand_with self.debtor) (stand_with l.debtor)) }
+        ensures wakes { IfOk result.1
+            (λ r. Tells (one_if result.0) (wakes_with self.debtor) (wakes_of r.end)) }
+        ensures still { IfErr result.1
+            (λ l. Tells (one_if result.0) (wakes_with self.debtor) (wakes_with l.debtor)) }
     {
         let Leaving { debtor } = self;
         let (wakes, rest) = debtor.pay_some();
@@ -128,6 +152,7 @@ impl<T: Drop> Leaving<T> {
 impl<T: Drop> Debtor<T> {
     ghost use Rattle.mb_channel.specs.Polls.{IfSleeps, OfLook, OfPolled};
     ghost use Rattle.mb_channel.specs.Standing.{NoMore, Standing, stand_with};
+    ghost use Rattle.mb_channel.specs.Wakes.{Tells, after_polled, wakes_with};
     ghost use Rattle.mb_channel.specs.Work.{IfAsleep};
     ghost use Rattle.mb_channel.specs.declared.heard.Heard.TheVariants as looked;
 
@@ -137,6 +162,7 @@ impl<T: Drop> Debtor<T> {
         requires receives { 0 < (view_in self.chair).receives }
         requires sleeps { IfAsleep heard (Sleeps self.busy) }
         ensures answer { (v : Standing T) → OfLook heard v self → OfPolled result v }
+        ensures wakes { Tells 0 (wakes_with self) (after_polled result) }
         ensures sleeps { IfSleeps result (λ a. (a.debtor ≡ self) × (heard ≡ looked.Asleep)) }
     {
         match heard {
@@ -155,6 +181,7 @@ impl<T: Drop> Debtor<T> {
         requires takes { (view_in self.chair).takes ≡ true }
         requires receives { 0 < (view_in self.chair).receives }
         ensures answer { (v : Standing T) → NoMore v (stand_with self) → OfPolled result v }
+        ensures wakes { Tells 0 (wakes_with self) (after_polled result) }
         ensures awake { IfSleeps result (λ _. ⊥) }
     {
         match self.rest() {

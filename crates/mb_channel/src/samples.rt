@@ -17,6 +17,7 @@ ghost use Rattle.mb_channel.specs.Segments.{AreLogs, EachKeeps, InTurn, KeepsEnd
 ghost use Rattle.mb_channel.specs.Stays.{AllBy, AllTo, AreApart, DidSo, Told, by_ends};
 ghost use Rattle.mb_channel.specs.Lives.{HaveEnded, end_in};
 ghost use Rattle.mb_channel.specs.Receives.{SawEmpty, SawNothing, found_in};
+ghost use Rattle.mb_channel.specs.Wakes.{Tells, wakes};
 ghost use Rattle.mb_channel.specs.declared.end.End.{End};
 ghost use Rattle.mb_channel.specs.declared.inside.Inside.{Inside};
 
@@ -128,4 +129,13 @@ pub fn sample_empty()
         → SawNothing i j }
     ensures before { (i : Inside ℕ) → SawNothing i i → ⊥ }
     ensures end { (e : End ℕ) → SawEmpty e e → ⊥ }
+{}
+
+/// What a caller was told. Admitted: of a token given, and of none while one is still to be told. Refused: of none though
+/// a token was given, and of one that was not given.
+pub fn sample_wakes()
+    ensures told { Tells 1 (wakes 0 0) (wakes 1 0) }
+    ensures untold { Tells 0 (wakes 0 0) (wakes 1 1) }
+    ensures silent { Tells 0 (wakes 0 0) (wakes 1 0) → ⊥ }
+    ensures needless { Tells 1 (wakes 0 0) (wakes 0 0) → ⊥ }
 {}

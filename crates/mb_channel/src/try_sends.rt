@@ -33,11 +33,13 @@ pub enum Sending<T: Drop> {
 impl<T: Drop> Channel<T> {
     ghost use Rattle.mb_channel.specs.Ends.{IsEndOf};
     ghost use Rattle.mb_channel.specs.Standing.{OfSending, stand_of};
+    ghost use Rattle.mb_channel.specs.Wakes.{Tells, after_sending, wakes_of};
 
     /// Tries to send a value, behind all that the sender sent before. It makes a few accesses, and wakes nobody.
     pub fn try_send(&self, sender: Sender<T>, value: T) -> Sending<T>
         requires channel { IsEndOf self.now sender.end }
         ensures answer { OfSending result value (stand_of sender.end) }
+        ensures wakes { Tells 0 (wakes_of sender.end) (after_sending result) }
     {
         let Sender { mut end } = sender;
         let mut value = value;
@@ -62,6 +64,7 @@ impl<T: Drop> Channel<T> {
 impl<T: Drop> Owing<T> {
     ghost use Rattle.std.specs.Prelude.{IfErr, IfOk};
     ghost use Rattle.mb_channel.specs.Standing.{NoMore, stand_of, stand_with};
+    ghost use Rattle.mb_channel.specs.Wakes.{Tells, one_if, wakes_of, wakes_with};
 
     /// Gives the tokens that are owed, and wakes a thread for each.
     pub fn pay<R: Wait>(self, rt: &R) -> Sender<T>
@@ -78,6 +81,10 @@ impl<T: Drop> Owing<T> {
     pub fn pay_some(self) -> (bool, Result<Sender<T>, Owing<T>>)
         ensures paid { IfOk result.1 (λ s. NoMore (stand_with self.debtor) (stand_of s.end)) }
         ensures owes { IfErr result.1 (λ o. NoMore (stand_with self.debtor) (stand_with o.debtor)) }
+        ensures wakes { IfOk result.1
+            (λ s. Tells (one_if result.0) (wakes_with self.debtor) (wakes_of s.end)) }
+        ensures still { IfErr result.1
+            (λ o. Tells (one_if result.0) (wakes_with self.debtor) (wakes_with o.debtor)) }
     {
         let Owing { debtor } = self;
         let (wakes, rest) = debtor.pay_some();

@@ -25,6 +25,8 @@ pub struct Knows<T: Drop> {
     pub number: u64,
     /// Its visits, the newest first.
     pub visits: LinkedList<Visit<T>>,
+    /// How many tokens it gave in the segments that it left.
+    pub gave: u64,
     /// Whether it has a pass of a segment, and of which.
     pub inside: bool,
     pub at: u64,

@@ -4,7 +4,7 @@ use Rattle.mb_ring.specs.declared.answers.Draw.{Draw}
 use Rattle.mb_ring.specs.declared.answers.Draw.TheVariants as draw
 use Rattle.mb_segment.specs.declared.answers.Look.{Look}
 use Rattle.mb_segment.specs.declared.answers.Look.TheVariants as look
-pub use Rattle.mb_segment.specs.Answers.{OfCut, OfLeave, OfLook, OfRest, OfWake, OfWakeAll}
+pub use Rattle.mb_segment.specs.Answers.{OfCut, OfLeave, OfLook, OfRest, OfWake}
 
 -- a draw: of a position; or of none, since the ring is full, cut or worn out, or since another is to go first
 abbrev pub OfDraw : Draw → (ℕ → Type 0) → Type 0 → Type 0 → Type 0 → Type 0 → Type 0 → Type 0

@@ -15,6 +15,6 @@ pub use Rattle.mb_ring.specs.Steps.{Sat, always, asking, becomes, claiming, coun
 pub use Rattle.mb_ring.specs.Steps.{if_none_waits, looking, seeing_cut, seeing_mark, seeing_room, seeing_taken}
 pub use Rattle.mb_ring.specs.Laws.{IsCut, IsOfPass, IsPassOf, IsViewOf, RingState, claimed_in, drawn_in}
 pub use Rattle.mb_ring.specs.Seats.{Becomes, IsFree, IsStill, held_by, hub_view, view_in}
-pub use Rattle.mb_ring.specs.Answers.{IsClosed, IsOver, OfCut, OfDraw, OfLeave, OfLook, OfRest, OfWake, OfWakeAll}
+pub use Rattle.mb_ring.specs.Answers.{IsClosed, IsOver, OfCut, OfDraw, OfLeave, OfLook, OfRest, OfWake}
 pub use Rattle.mb_ring.specs.Ending.{HasLeft, Stand}
 pub use Rattle.mb_ring.specs.Waiting.{OfFound, OfNotSent, OfReceived, value_of}

@@ -1,6 +1,6 @@
 //! The calls of senders.
 ghost use Rattle.std.specs.Prelude.{None, Some, [], ℕ, ◌%◌, ◌+◌, ◌<◌, ◌∷◌, ◌≡◌, ◌≤◌};
-ghost use Rattle.mb_ring.specs.{Becomes, IsClosed, IsFree, IsStill, KnowsCut, MaySend, Member, OfCut, OfDraw, OfWake, OfWakeAll};
+ghost use Rattle.mb_ring.specs.{Becomes, IsClosed, IsFree, IsStill, KnowsCut, MaySend, Member, OfCut, OfDraw, OfWake};
 ghost use Rattle.mb_ring.specs.{SawAllGot, Writes, bare, did_cut, drew, ended, has_closed, has_woken, held_by, owes_all, owes_wake};
 ghost use Rattle.mb_ring.specs.{sees_cut, sees_full, spot, view_in, with_duty};
 
@@ -92,6 +92,7 @@ impl<T: Drop, A: Allocator + Drop> Ring<T, A> {
         ensures pass { IsStill pass.old pass.new }
         ensures answer { OfWake result
             (Becomes pass.old pass.new (with_duty has_woken (view_in pass.old)))
+            (Becomes pass.old pass.new (with_duty has_woken (view_in pass.old)))
             (Becomes pass.old pass.new (view_in pass.old)) }
     {
         let seen = self.see_sleepers(pass);
@@ -110,8 +111,9 @@ impl<T: Drop, A: Allocator + Drop> Ring<T, A> {
         requires ring { pass.old.seat.table_id ≡ self.now.table.shared.table_id }
         requires owes { 0 < (view_in pass.old).duty.closing }
         ensures pass { IsStill pass.old pass.new }
-        ensures answer { OfWakeAll result
+        ensures answer { OfWake result
             (Becomes pass.old pass.new (with_duty has_closed (view_in pass.old)))
+            (Becomes pass.old pass.new (view_in pass.old))
             (Becomes pass.old pass.new (view_in pass.old)) }
     {
         let seen = self.see_rest(pass);

@@ -189,6 +189,7 @@ module _ {T : Type 0} where
           waits = claim_waits s k n v w at old now_ r.1 idle b bs first refl;
           taken_ = claim_taken s k n v w at old now_ r.1 idle b bs first refl;
           counted = let l = look.0 in omega arith;
+          given = refl;
           over = λ _ none_there. absurd (let z : length k.history.rest ≡ 0 = ap length none_there in omega arith);
           role = refl;
           out_ = refl;

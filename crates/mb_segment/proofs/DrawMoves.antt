@@ -173,6 +173,7 @@ module _ {T : Type 0} where
           waits = draw_waits s k n v at x old now_ fits_ idle w refl;
           taken_ = draw_taken s k n v at x old now_ fits_ idle w refl;
           counted = omega arith;
+          given = refl;
           over = λ none_free none_there. absurd (omega arith);
           role = refl;
           out_ = refl;
@@ -292,6 +293,7 @@ module _ {T : Type 0} where
           waits = waits_stay s k n v w at refl;
           taken_ = taken_stay s k n v w at refl;
           counted = omega arith;
+          given = refl;
           over = λ _ none_there. (shut_, none_there);
           role = refl;
           out_ = refl;
@@ -336,7 +338,7 @@ module _ {T : Type 0} where
   cut_seen n me s k at high =
       let now_ = at0 s k in let small = k.small in let in_ = k.within in
       let fit = k.fits n me.0 at in
-      loaded s 0 n me.1 (sees_cut me.0) (settled s k n me.0 (sees_cut me.0) at refl refl refl refl
+      loaded s 0 n me.1 (sees_cut me.0) (settled s k n me.0 (sees_cut me.0) at refl refl refl refl refl
       (sighted k.history k.states k.cut k.hub k.roll n me.0 record me.0.sight { cut = true } fit fit.low fit.ripe
       fit.full (λ _. omega arith) fit.empty)
       (at_rest s k me.0 (sees_cut me.0) refl))
@@ -384,7 +386,7 @@ module _ {T : Type 0} where
         sees_full me.0,
         keeps,
         tt,
-        loaded s 0 n me.1 (sees_full me.0) (settled s k n me.0 (sees_full me.0) at refl refl refl refl
+        loaded s 0 n me.1 (sees_full me.0) (settled s k n me.0 (sees_full me.0) at refl refl refl refl refl
             (sighted k.history k.states k.cut k.hub k.roll n me.0 record me.0.sight { full = true } fit fit.low
             fit.ripe
             (λ _. omega arith) fit.cut_ fit.empty)

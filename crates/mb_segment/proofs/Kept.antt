@@ -7,7 +7,7 @@ use Rattle.mb_segment.proofs.Base.{◌-◌, ◌<◌, ◌==◌, ◌∙◌, ◌∷
 use Rattle.mb_segment.specs.Vocabulary.{Account, AllHeed, Duty, Fits, Half, HalfFits, HasHalf, History, Homes, Keeps, Known}
 use Rattle.mb_segment.specs.Vocabulary.{Match, Member, Quiet, Reads, Sat, Shut, Sight, Taken, Undrawn, View, Waiting}
 use Rattle.mb_segment.specs.Vocabulary.{Writes, closing, cuts_by, drawn, free, got_by, has_cut, if_hub, listed, member, no_duty}
-use Rattle.mb_segment.specs.Vocabulary.{one_if_member, out, owed, sent_by, sleeping, spot, taken, total}
+use Rattle.mb_segment.specs.Vocabulary.{Tokens, one_if_member, out, owed, sent_by, sleeping, spot, taken, tokens_given, tokens_taken, total}
 use Rattle.mb_segment.proofs.Totals.{asleep_listed, length_set, there, total_set}
 use lib.Seq.{set-get_or}
 
@@ -72,6 +72,7 @@ module _ {T : Type 0} where
     pub waits : Waiting x.history (slice_set s.views n w) x.states x.homes
     pub taken_ : Taken x.history (slice_set s.views n w) x.states x.homes
     pub counted : listed w + (k.tokens + k.waiting) ≡ listed v + (x.tokens + x.waiting)
+    pub given : tokens_given w + (k.tokens + tokens_taken v) ≡ tokens_given v + (x.tokens + tokens_taken w)
     pub over : free_in k.history k.states k.cut ≡ 0 → k.history.rest ≡ [] → (free_in x.history x.states x.cut ≡ 0)
         × (x.history.rest ≡ [])
     pub role : w.role ≡ v.role
@@ -121,6 +122,10 @@ module _ {T : Type 0} where
       let c₀ = k.counted in
       let c₁ = o.counted in
       let counted' : total listed views' ≡ x.tokens + x.waiting = omega arith in
+      let g₀ = total_set tokens_given s.views n v w at in
+      let g₁ = total_set tokens_taken s.views n v w at in
+      let g₂ = k.given in
+      let g₃ = o.given in
       let under = asleep_listed views' in
       let laws' = o.laws (total sleeping s.views) (total owed s.views) (total closing s.views)
       (total sleeping views') (total owed views') (total closing views')
@@ -147,6 +152,7 @@ module _ {T : Type 0} where
         waits = o.waits;
         taken_ = o.taken_;
         counted = counted';
+        given = omega arith;
         quiet = laws'.0;
         shut = laws'.1;
         hub = k.hub;
@@ -215,6 +221,7 @@ module _ {T : Type 0} where
         (x.tokens + 4294967296 * x.waiting) ∷ k.states
     pub narrow : x.tokens < 4294967296
     pub counted : listed w + (k.tokens + k.waiting) ≡ listed v + (x.tokens + x.waiting)
+    pub given : tokens_given w + (k.tokens + tokens_taken v) ≡ tokens_given v + (x.tokens + tokens_taken w)
     pub role : w.role ≡ v.role
     pub out_ : w.out ≡ v.out
     pub half : w.half ≡ v.half
@@ -240,6 +247,7 @@ module _ {T : Type 0} where
         waits = waits_stay s k n v w at o.half;
         taken_ = taken_stay s k n v w at o.half;
         counted = o.counted;
+        given = o.given;
         over = λ f e. (f, e);
         role = o.role;
         out_ = o.out_;
@@ -254,12 +262,15 @@ module _ {T : Type 0} where
   -- the same where no word changes
   pub settled : (s : St T) (k : Keeps s) (n : ℕ) (v w : View T) → get_elem? s.views n ≡ some v → listed w
       ≡ listed v → w.role ≡ v.role
-      → w.out ≡ v.out → w.half ≡ v.half → Fits k.history k.states k.cut k.hub k.roll n w → Laws s k v w (now s k)
+      → w.out ≡ v.out → w.half ≡ v.half → w.tokens ≡ v.tokens → Fits k.history k.states k.cut k.hub k.roll n w
+      → Laws s k v w (now s k)
       → Keeps record { words = s.words; homes = s.homes; views = slice_set s.views n w }
-  settled s k n v w at li ro ou ha own laws = steady s k n v w (now s k) at record {
+  settled s k n v w at li ro ou ha to own laws = steady s k n v w (now s k) at record {
     words = k.words;
     narrow = k.narrow;
     counted = omega arith;
+    given = ap (λ (c : Tokens). c.gave + (k.tokens + v.tokens.took)) to
+        ∙ ap (λ (c : Tokens). v.tokens.gave + (k.tokens + c.took)) (sym to);
     role = ro;
     out_ = ou;
     half = ha;

@@ -4,39 +4,41 @@ use Rattle.mb_segment.proofs.Base.{slice_index, slice_set, some, step, sym, ℕ,
 use Rattle.mb_segment.proofs.Base.{◌<◌, ◌==◌, ◌∙◌, ◌∷◌, ◌≡◌, ◌≤◌}
 use Rattle.mb_segment.specs.Vocabulary.{Duty, Keeps, Member, Sat, always, drawn, enters, exchanging}
 use Rattle.mb_segment.specs.Vocabulary.{gives_up, goes_unseen, hands_on, has_closed, has_woken, if_none_waits}
-use Rattle.mb_segment.specs.Vocabulary.{leaves, leaves_with_token, listed, owed, same, taken, wakes_up}
-use Rattle.mb_segment.specs.Vocabulary.{with_duty}
-use Rattle.mb_segment.proofs.Kept.{Goes, Laws, St, StaysIdle, at2, exchanges, loaded, now, refit, settled, stays, steady}
+use Rattle.mb_segment.specs.Vocabulary.{View, gives_token, leaves, leaves_with_token, listed, owed, same, taken, takes_token}
+use Rattle.mb_segment.specs.Vocabulary.{tokens_given, tokens_taken, wakes_up, with_duty}
+use Rattle.mb_segment.proofs.Kept.{Goes, Laws, Plain, St, StaysIdle, at2, exchanges, loaded, now, refit, settled, stays, steady}
 use Rattle.mb_segment.proofs.LookMoves.{owing, plain}
 
 module _ {T : Type 0} where
   -- an exchange that leaves t tokens and a waiting
-  at_list : (f : Duty → Duty) (slots n : ℕ) (me : Sat T) (old new : ℕ) → StaysIdle me.0 (f me.0.duty)
+  at_list : (f : View T → View T) (slots n : ℕ) (me : Sat T) (old new : ℕ) → Plain me.0 (f me.0)
+      → (f me.0).out ≡ me.0.out
       → ((s : St T) (k : Keeps s) → get_elem? s.views n ≡ some me.0 → k.tokens + 4294967296 * k.waiting ≡ old
       → (t : ℕ) × (a : ℕ) × (new ≡ t + 4294967296 * a) × (t < 4294967296)
-      × (listed (with_duty f me.0) + (k.tokens + k.waiting) ≡ listed me.0 + (t + a))
-      × Laws s k me.0 (with_duty f me.0) record (now s k)
+      × (listed (f me.0) + (k.tokens + k.waiting) ≡ listed me.0 + (t + a))
+      × (tokens_given (f me.0) + (k.tokens + tokens_taken me.0) ≡ tokens_given me.0 + (t + tokens_taken (f me.0)))
+      × Laws s k me.0 (f me.0) record (now s k)
       { words = slice_set s.words 2 new; tokens = t; waiting = a })
       → Allows Keeps slots n me 2 (λ r. either (r == old) new r)
-      (exchanging (with_duty f) (step slots 2 old new none) me)
-  at_list f slots n me old new idle go = exchanges 2 (exchanging (with_duty f) (step slots 2 old new none) me) slots n
+      (exchanging f (step slots 2 old new none) me)
+  at_list f slots n me old new plain_ out_ go = exchanges 2 (exchanging f (step slots 2 old new none) me) slots n
       me old new
       (λ s k homes at e. let x = go s k at (sym (at2 s k) ∙ e) in (
-        with_duty f me.0,
+        f me.0,
         keeps,
         tt,
-        steady s k n me.0 (with_duty f me.0) record (now s k)
+        steady s k n me.0 (f me.0) record (now s k)
             { words = slice_set s.words 2 new; tokens = x.0; waiting = x.1 } at record {
               words = ap (λ l. slice_set l 2 new) k.words
                   ∙ ap (λ r. (drawn k.history + 9223372036854775808 * k.cut) ∷ taken k.history ∷ r ∷ k.states) x.2;
               narrow = x.3;
               counted = x.4;
-              role = refl;
-              out_ = refl;
-              half = refl;
-              own = refit k.history k.states k.cut k.hub k.roll n me.0 (with_duty f me.0) (plain f me.0 idle)
-                  (k.fits n me.0 at);
-              laws = x.5;
+              given = x.5;
+              role = plain_.0;
+              out_ = out_;
+              half = plain_.2;
+              own = refit k.history k.states k.cut k.hub k.roll n me.0 (f me.0) plain_ (k.fits n me.0 at);
+              laws = x.6;
             },
         ((λ _. (refl, refl)), λ ne. absurd (ne e)),
       ))
@@ -52,7 +54,7 @@ module _ {T : Type 0} where
     with_duty f me.0,
     keeps,
     tt,
-    loaded s 2 n me.1 (with_duty f me.0) (settled s k n me.0 (with_duty f me.0) at li refl refl refl
+    loaded s 2 n me.1 (with_duty f me.0) (settled s k n me.0 (with_duty f me.0) at li refl refl refl refl
         (refit k.history k.states k.cut k.hub k.roll n me.0 (with_duty f me.0) (plain f me.0 idle) (k.fits n me.0 at))
         (laws s k (omega arith))),
     ((λ _. (refl, refl)), λ high. absurd (omega arith)),
@@ -77,7 +79,7 @@ module _ {T : Type 0} where
     with_duty f me.0,
     keeps,
     tt,
-    loaded s 2 n me.1 (with_duty f me.0) (settled s k n me.0 (with_duty f me.0) at li refl refl refl
+    loaded s 2 n me.1 (with_duty f me.0) (settled s k n me.0 (with_duty f me.0) at li refl refl refl refl
         (refit k.history k.states k.cut k.hub k.roll n me.0 (with_duty f me.0) (plain f me.0 idle) (k.fits n me.0 at))
         (λ L O C L' O' C' l o c le q h. (
           ⊎_elim (λ x. inl (omega arith)) (λ x. inr (omega arith)) q,
@@ -116,11 +118,13 @@ module _ {T : Type 0} (slots n : ℕ) (me : Sat T) where
     pub gives_wake : 0 < me.0.duty.wakes → 4294967296 ≤ old → old % 4294967296 < 4294967295 → new + 4294967296
         ≡ old + 1
         → Allows Keeps slots n me 2 (λ r. either (r == old) new r)
-        (exchanging (with_duty has_woken) (step slots 2 old new none) me)
-    gives_wake owes waits room is = at_list has_woken slots n me old new
-        (owing (λ d. d.wakes) me.0 (has_woken me.0.duty) refl owes) (λ s k at e. let narrow = k.narrow in (
+        (exchanging (λ v. with_duty has_woken (gives_token v)) (step slots 2 old new none) me)
+    gives_wake owes waits room is = at_list (λ v. with_duty has_woken (gives_token v)) slots n me old new
+        (plain has_woken (gives_token me.0) (owing (λ d. d.wakes) me.0 (has_woken me.0.duty) refl owes)) refl
+        (λ s k at e. let narrow = k.narrow in (
           k.tokens + 1,
           k.waiting - 1,
+          omega arith,
           omega arith,
           omega arith,
           omega arith,
@@ -132,11 +136,12 @@ module _ {T : Type 0} (slots n : ℕ) (me : Sat T) where
 
     pub gives_all : 4294967296 ≤ old → old % 4294967296 < 4294967295 → new + 4294967296 ≡ old + 1
         → Allows Keeps slots n me 2 (λ r. either (r == old) new r)
-        (exchanging (with_duty same) (step slots 2 old new none) me)
-    gives_all waits room is = at_list same slots n me old new
-        (λ _ e. e) (λ s k at e. let narrow = k.narrow in (
+        (exchanging (λ v. with_duty same (gives_token v)) (step slots 2 old new none) me)
+    gives_all waits room is = at_list (λ v. with_duty same (gives_token v)) slots n me old new
+        (plain same (gives_token me.0) (λ _ e. e)) refl (λ s k at e. let narrow = k.narrow in (
           k.tokens + 1,
           k.waiting - 1,
+          omega arith,
           omega arith,
           omega arith,
           omega arith,
@@ -149,12 +154,13 @@ module _ {T : Type 0} (slots n : ℕ) (me : Sat T) where
     pub goes_in : me.0.role ≡ Member → new ≡ old + 4294967296
         → Allows Keeps slots n me 2 (λ r. either (r == old) new r)
         (exchanging (with_duty enters) (step slots 2 old new none) me)
-    goes_in role is = at_list enters slots n me old new
-        (λ no_ e. absurd (no_ role)) (λ s k at e. let narrow = k.narrow in (
+    goes_in role is = at_list (with_duty enters) slots n me old new
+        (plain enters me.0 (λ no_ e. absurd (no_ role))) refl (λ s k at e. let narrow = k.narrow in (
           k.tokens,
           k.waiting + 1,
           omega arith,
           narrow,
+          omega arith,
           omega arith,
           (λ L O C L' O' C' l o c le q h. (
             ⊎_elim (λ x. inl (omega arith)) (λ x. inr (omega arith)) q,
@@ -165,12 +171,14 @@ module _ {T : Type 0} (slots n : ℕ) (me : Sat T) where
     pub goes_out : 0 < me.0.duty.leaving → old ≡ new + 4294967296
         → Allows Keeps slots n me 2 (λ r. either (r == old) new r)
         (exchanging (with_duty leaves) (step slots 2 old new none) me)
-    goes_out may is = at_list leaves slots n me old new
-        (owing (λ d. d.leaving) me.0 (leaves me.0.duty) refl may) (λ s k at e. let narrow = k.narrow in (
+    goes_out may is = at_list (with_duty leaves) slots n me old new
+        (plain leaves me.0 (owing (λ d. d.leaving) me.0 (leaves me.0.duty) refl may)) refl
+        (λ s k at e. let narrow = k.narrow in (
           k.tokens,
           k.waiting - 1,
           omega arith,
           narrow,
+          omega arith,
           omega arith,
           (λ L O C L' O' C' l o c le q h. (
             ⊎_elim (λ x. inl (omega arith)) (λ x. inr (omega arith)) q,
@@ -180,12 +188,14 @@ module _ {T : Type 0} (slots n : ℕ) (me : Sat T) where
 
     pub goes_out_woken : 0 < me.0.duty.leaving → old < 4294967296 → old ≡ new + 1
         → Allows Keeps slots n me 2 (λ r. either (r == old) new r)
-        (exchanging (with_duty leaves_with_token) (step slots 2 old new none) me)
-    goes_out_woken may woken is = at_list leaves_with_token slots n me old new
-        (owing (λ d. d.leaving) me.0 (leaves_with_token me.0.duty) refl may)
+        (exchanging (λ v. with_duty leaves_with_token (takes_token v)) (step slots 2 old new none) me)
+    goes_out_woken may woken is = at_list (λ v. with_duty leaves_with_token (takes_token v)) slots n me old new
+        (plain leaves_with_token (takes_token me.0)
+        (owing (λ d. d.leaving) me.0 (leaves_with_token me.0.duty) refl may)) refl
         (λ s k at e. let narrow = k.narrow in (
           k.tokens - 1,
           0,
+          omega arith,
           omega arith,
           omega arith,
           omega arith,
@@ -194,11 +204,13 @@ module _ {T : Type 0} (slots n : ℕ) (me : Sat T) where
 
     pub accepts : 0 < me.0.duty.asleep → 0 < old % 4294967296 → old ≡ new + 1
         → Allows Keeps slots n me 2 (λ r. either (r == old) new r)
-        (exchanging (with_duty wakes_up) (step slots 2 old new none) me)
-    accepts sleeps token is = at_list wakes_up slots n me old new
-        (owing (λ d. d.asleep) me.0 (wakes_up me.0.duty) refl sleeps) (λ s k at e. let narrow = k.narrow in (
+        (exchanging (λ v. with_duty wakes_up (takes_token v)) (step slots 2 old new none) me)
+    accepts sleeps token is = at_list (λ v. with_duty wakes_up (takes_token v)) slots n me old new
+        (plain wakes_up (takes_token me.0) (owing (λ d. d.asleep) me.0 (wakes_up me.0.duty) refl sleeps)) refl
+        (λ s k at e. let narrow = k.narrow in (
           k.tokens - 1,
           k.waiting,
+          omega arith,
           omega arith,
           omega arith,
           omega arith,

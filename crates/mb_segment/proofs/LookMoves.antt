@@ -50,7 +50,7 @@ module _ {T : Type 0} where
         sees_taken r me.0,
         keeps,
         tt,
-        loaded s 1 n me.1 (sees_taken r me.0) (settled s k n me.0 (sees_taken r me.0) at refl refl refl refl
+        loaded s 1 n me.1 (sees_taken r me.0) (settled s k n me.0 (sees_taken r me.0) at refl refl refl refl refl
             (sighted k.history k.states k.cut k.hub k.roll n me.0 record me.0.sight { low = r } fit
             (omega arith) fit.ripe fit.full fit.cut_ fit.empty)
             (at_rest s k me.0 (sees_taken r me.0) refl)),
@@ -110,7 +110,7 @@ module _ {T : Type 0} where
         w,
         keeps,
         tt,
-        loaded s 0 n me.1 w (settled s k n me.0 w at (omega arith) refl refl refl
+        loaded s 0 n me.1 w (settled s k n me.0 w at (omega arith) refl refl refl refl
             (sighted k.history k.states k.cut k.hub k.roll n (with_duty f me.0)
             record me.0.sight { empty = slice_index s.words 0; found = me.0.sight.found + 1 }
             (refit k.history k.states k.cut k.hub k.roll n me.0 (with_duty f me.0) (plain f me.0 lf.2) fit)
@@ -135,7 +135,7 @@ module _ {T : Type 0} where
         w,
         keeps,
         tt,
-        loaded s 0 n me.1 w (settled s k n me.0 w at (omega arith) refl refl refl
+        loaded s 0 n me.1 w (settled s k n me.0 w at (omega arith) refl refl refl refl
             record {
               member = λ r. let m = fit.member r in record
                   { sent = m.sent; got = m.got; cut = m.cut; no_hub = m.no_hub; not_back = m.not_back };

@@ -151,6 +151,7 @@ module _ {T : Type 0} where
               waits = mark_waits s k n v w at p half;
               taken_ = mark_taken s k n v w at p half;
               counted = omega arith;
+              given = refl;
               over = λ f e. (ap (λ (m : ℕ). free k.cut (m - drawn k.history)) many₀ ∙ f, e);
               role = refl;
               out_ = refl;
@@ -205,7 +206,7 @@ module _ {T : Type 0} where
         sees_mark p me.0,
         keeps,
         tt,
-        loaded s i n me.1 (sees_mark p me.0) (settled s k n me.0 (sees_mark p me.0) at refl refl refl refl
+        loaded s i n me.1 (sees_mark p me.0) (settled s k n me.0 (sees_mark p me.0) at refl refl refl refl refl
             (sighted k.history k.states k.cut k.hub k.roll n me.0 record me.0.sight { ripe = Some p } fit fit.low
             (λ j e. let q : p ≡ j = same_some p j e in (
               omega arith,

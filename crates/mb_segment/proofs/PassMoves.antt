@@ -6,7 +6,7 @@ use Rattle.mb_segment.proofs.Base.{◌++◌, ◌+◌, ◌-◌, ◌<◌, ◌∙�
 use Rattle.mb_segment.specs.Vocabulary.{Duty, Fits, Half, HasHalf, History, In, IsMember, Issuer, Keeps}
 use Rattle.mb_segment.specs.Vocabulary.{Match, Member, Nothing, Reads, Role, Spent, View, Writes, blank}
 use Rattle.mb_segment.specs.Vocabulary.{closing, if_hub, issued, listed, member, new_hub, no_duty}
-use Rattle.mb_segment.specs.Vocabulary.{one_if_member, out, owed, sleeping, spent, spot, took_back, total}
+use Rattle.mb_segment.specs.Vocabulary.{one_if_member, out, owed, sleeping, spent, spot, tokens_given, tokens_taken, took_back, total}
 use Rattle.mb_segment.proofs.Totals.{below_total, length_set, length_snoc, one_in_total, snoc_cases, there}
 use Rattle.mb_segment.proofs.Totals.{total_set, total_snoc}
 use Rattle.mb_segment.proofs.Spots.{map_length, no_some, replicate_at, replicate_length}
@@ -17,7 +17,7 @@ use Rattle.atomic_table.proofs.Lists.{at_map}
 
 module _ {T : Type 0} where
   -- a view of a pass that did nothing, or of one that came back, saw nothing
-  unseen : (h : History T) (states : List ℕ) (cut hub : ℕ) (roll : List ℕ) (n : ℕ) (r : Role)
+  pub unseen : (h : History T) (states : List ℕ) (cut hub : ℕ) (roll : List ℕ) (n : ℕ) (r : Role)
       → (r ≡ Member → IsMember h hub roll n blank) → (r ≡ Issuer → (n ≡ hub) × Match h roll [])
       → (r ≡ Spent → In n roll) → Fits h states cut hub roll n record blank { role = r }
   unseen h states cut hub roll n r is_member hub_ back = record {
@@ -75,6 +75,7 @@ module _ {T : Type 0} where
         waits = λ k e le at. absurd (some-ne-none e (sym at));
         taken_ = λ k c at. absurd (some-ne-none c (sym at));
         counted = refl;
+        given = refl;
         quiet = inl (omega arith);
         shut = inl (omega arith);
         hub = 0;
@@ -111,7 +112,10 @@ module _ {T : Type 0} where
       let a₅ = total_set out s.views n v w at in let b₅ = total_snoc out one blank in
       let o₀ : if_hub v.role (v.out + 1) ≡ v.out + 1 = ap (λ (r : Role). if_hub r (v.out + 1)) role in
       let o₁ : if_hub v.role v.out ≡ v.out = ap (λ (r : Role). if_hub r v.out) role in
+      let a₆ = total_set tokens_given s.views n v w at in let b₆ = total_snoc tokens_given one blank in
+      let a₇ = total_set tokens_taken s.views n v w at in let b₇ = total_snoc tokens_taken one blank in
       let c = k.counted in
+      let g = k.given in
       let o = k.out_ in
       record {
         history = k.history;
@@ -141,6 +145,7 @@ module _ {T : Type 0} where
             ))
             (λ z. inr z) (k.taken_ i c c_at);
         counted = omega arith;
+        given = omega arith;
         quiet = ⊎_elim (λ x. inl (omega arith)) (λ x. inr (omega arith)) k.quiet;
         shut = ⊎_elim (λ x. inl (omega arith)) (λ x. inr (omega arith)) k.shut;
         hub = k.hub;
@@ -303,7 +308,11 @@ module _ {T : Type 0} where
         let o₁ : out v ≡ v.out = ap (λ (r : Role). if_hub r v.out) v_role in
         let mine = below_total member s.views other w was_other in
         let all = out_of_hub s k n v at v_role in
-        let c = k.counted in let o = k.out_ in
+        let a₆ = total_set tokens_given s.views n v (took_back v w) at in
+        let b₆ = total_set tokens_given one other w spent at_other in
+        let a₇ = total_set tokens_taken s.views n v (took_back v w) at in
+        let b₇ = total_set tokens_taken one other w spent at_other in
+        let c = k.counted in let o = k.out_ in let g = k.given in
         record {
           history = k.history;
           states = k.states;
@@ -322,6 +331,7 @@ module _ {T : Type 0} where
           taken_ = λ i c c_at. ⊎_elim (λ z. inl (z.0, half_joins c.to (Reads (spot i c.entry.value)) z.1))
               (λ z. inr z) (k.taken_ i c c_at);
           counted = omega arith;
+          given = omega arith;
           quiet = ⊎_elim (λ x. inl (omega arith)) (λ x. inr (omega arith)) k.quiet;
           shut = ⊎_elim (λ x. inl (omega arith)) (λ x. inr (omega arith)) k.shut;
           hub = k.hub;

@@ -145,6 +145,7 @@ module _ {T : Type 0} where
               waits = read_waits s k n v w at p half;
               taken_ = read_taken s k n v w at p half;
               counted = omega arith;
+              given = refl;
               over = λ f e. (frees ∙ f, e);
               role = refl;
               out_ = refl;

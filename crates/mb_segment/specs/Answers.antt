@@ -20,17 +20,11 @@ OfDraw draw.Full at full closed again = full
 OfDraw draw.Closed at full closed again = closed
 OfDraw draw.Again at full closed again = again
 
--- a wake: the debt is paid, or another changed the list
-abbrev pub OfWake : Wake → Type 0 → Type 0 → Type 0
-OfWake wake.Nobody paid again = paid
-OfWake wake.One paid again = paid
-OfWake wake.Again paid again = again
-
--- a wake of all: nobody waits any more, or the debt stays
-abbrev pub OfWakeAll : Wake → Type 0 → Type 0 → Type 0
-OfWakeAll wake.Nobody paid stays = paid
-OfWakeAll wake.One paid stays = stays
-OfWakeAll wake.Again paid stays = stays
+-- a wake, of one or of all: nobody waits without a token, a token was given, or another changed the list
+abbrev pub OfWake : Wake → Type 0 → Type 0 → Type 0 → Type 0
+OfWake wake.Nobody nobody one again = nobody
+OfWake wake.One nobody one again = one
+OfWake wake.Again nobody one again = again
 
 -- a look: at a position that is marked, at one that is not yet, at none, or at none for ever
 abbrev pub OfLook : Look → (ℕ → Type 0) → Type 0 → Type 0 → Type 0 → Type 0

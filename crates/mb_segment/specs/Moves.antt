@@ -2,7 +2,7 @@
 use Rattle.std.specs.Prelude.{Bool, List, None, Option, Some, [], false, max, suc, true, ℕ, ◌+◌, ◌++◌, ◌-◌, ◌<◌, ◌∷◌, ◌||◌, ◌≡◌}
 use Rattle.mb_segment.specs.Types.{Duty, Nothing, Reads, Spot, View, Writes}
 use Rattle.mb_segment.specs.History.{spot}
-use Rattle.mb_segment.specs.Passes.{blank, blind}
+use Rattle.mb_segment.specs.Passes.{blank, blind, no_tokens}
 
 abbrev pub with_duty : {T : Type 0} → (Duty → Duty) → View T → View T
 with_duty f v = record v { duty = f v.duty }
@@ -89,6 +89,13 @@ leaves d = record d { leaving = d.leaving - 1 }
 abbrev pub leaves_with_token : Duty → Duty
 leaves_with_token d = record d { wakes = d.wakes + 1; leaving = d.leaving - 1 }
 
+-- ---- tokens
+abbrev pub gives_token : {T : Type 0} → View T → View T
+gives_token v = record v { tokens = record v.tokens { gave = v.tokens.gave + 1 } }
+
+abbrev pub takes_token : {T : Type 0} → View T → View T
+takes_token v = record v { tokens = record v.tokens { took = v.tokens.took + 1 } }
+
 -- ---- what was seen
 abbrev pub sees_taken : {T : Type 0} → ℕ → View T → View T
 sees_taken r v = record v { sight = record v.sight { low = r } }
@@ -151,12 +158,13 @@ abbrev pub or : Bool → Bool → Bool
 or true b = true
 or false b = b
 
--- the hub takes a pass back: it has its account, and knows whether it was told that no value can come any more, or none
--- can be sent
+-- the hub takes a pass back: it has its account, counts its tokens, and knows whether it was told that no value can come
+-- any more, or none can be sent
 abbrev pub took_back : {T : Type 0} → View T → View T → View T
 took_back v w = record v {
   out = v.out - 1;
   ends = w.account ∷ v.ends;
+  tokens = record { gave = v.tokens.gave + w.tokens.gave; took = v.tokens.took + w.tokens.took };
   over = or v.over w.over;
   sight = record v.sight { full = or v.sight.full w.sight.full; cut = or v.sight.cut w.sight.cut };
 }
@@ -165,9 +173,12 @@ took_back v w = record v {
 abbrev pub is_over : {T : Type 0} → View T → Bool
 is_over v = v.over || v.sight.full || v.sight.cut
 
--- ---- a view without what it saw, and a view that owes nothing
+-- ---- a view without its tokens, one also without what it saw, and one that owes nothing
+abbrev pub uncounted : {T : Type 0} → View T → View T
+uncounted v = record v { tokens = no_tokens }
+
 abbrev pub bare : {T : Type 0} → View T → View T
-bare v = record v { sight = blind }
+bare v = record v { sight = blind; tokens = no_tokens }
 
 abbrev pub calm : {T : Type 0} → View T → View T
 calm v = record blank { account = v.account; known = v.known; over = v.over }

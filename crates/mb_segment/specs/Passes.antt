@@ -1,6 +1,6 @@
 -- Which passes are out, and what those that came back had done.
 use Rattle.std.specs.Prelude.{List, None, [], ℕ, ◌∷◌, ◌≡◌, ◌⊎◌, false}
-use Rattle.mb_segment.specs.Types.{Account, Duty, Issuer, Known, Member, Nothing, Role, Sight, Spent, View}
+use Rattle.mb_segment.specs.Types.{Account, Duty, Issuer, Known, Member, Nothing, Role, Sight, Spent, Tokens, View}
 use Rattle.mb_segment.specs.History.{History, got_by, has_cut, sent_by}
 
 abbrev pub In : ℕ → List ℕ → Type 0
@@ -40,6 +40,9 @@ out v = if_hub v.role v.out
 abbrev pub no_duty : Duty
 no_duty = record { wakes = 0; looks = 0; fresh = 0; asleep = 0; leaving = 0; closing = 0 }
 
+abbrev pub no_tokens : Tokens
+no_tokens = record { gave = 0; took = 0 }
+
 abbrev pub blind : Sight
 blind = record { low = 0; ripe = None; full = false; cut = false; empty = 0; found = 0 }
 
@@ -57,6 +60,7 @@ blank = record {
   known = ignorant;
   half = Nothing;
   duty = no_duty;
+  tokens = no_tokens;
   sight = blind;
   over = false;
   out = 0;

@@ -10,7 +10,7 @@ use Rattle.mb_segment.specs.Types.{Issuer, Member, Nothing, Spent, View}
 use Rattle.mb_segment.specs.History.{History, cuts_by, drawn, got_by, has_cut, sent_by, taken}
 use Rattle.mb_segment.specs.Passes.{Distinct, In, Match, member, no_duty, out}
 use Rattle.mb_segment.specs.Heard.{Heard}
-use Rattle.mb_segment.specs.Sleeping.{Quiet, Shut, closing, free, listed, owed, sleeping, total}
+use Rattle.mb_segment.specs.Sleeping.{Quiet, Shut, closing, free, listed, owed, sleeping, tokens_given, tokens_taken, total}
 use Rattle.mb_segment.specs.Slots.{HalfFits, Taken, Undrawn, Waiting}
 
 -- the view of a pass that is out: its account is the history's, and it is neither the hub nor one that came back
@@ -62,6 +62,8 @@ pub record Keeps {T : Type 0} (s : State (Option T) (View T)) : Type 0 where
   pub taken_ : Taken history s.views states s.homes
   -- the list counts its members, and both laws of sleep hold
   pub counted : total listed s.views ≡ tokens + waiting
+  -- each token that was given is still there, or was taken
+  pub given : total tokens_given s.views ≡ tokens + total tokens_taken s.views
   pub quiet : Quiet (length history.rest) tokens (total sleeping s.views) (total owed s.views)
   pub shut : Shut tokens (total sleeping s.views) (free cut (length states - drawn history)) (total closing s.views)
   -- the number of the hub, which does nothing itself, and the numbers of the passes that came back

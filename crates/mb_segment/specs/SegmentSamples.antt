@@ -4,7 +4,7 @@ use mathlib.Core.Option.{some}
 use Rattle.mb_segment.specs.Types.{Account, Spot, View}
 use Rattle.mb_segment.specs.History.{Claim, Entry, History, spot}
 use Rattle.mb_segment.specs.Passes.{blank, new_hub, no_duty}
-use Rattle.mb_segment.specs.Moves.{owes_wake, sees_empty, with_duty}
+use Rattle.mb_segment.specs.Moves.{gives_token, owes_wake, sees_empty, with_duty}
 use Rattle.mb_segment.specs.Laws.{SegmentState}
 
 -- value x of pass n, and that it was claimed by pass r
@@ -72,3 +72,14 @@ forgotten = record {
   homes = [];
   views = record new_hub { out = 1 } ∷ sleeper ∷ [];
 }
+
+-- there is no position, pass 1 sleeps with a token, and pass 2 is the one that gave it or not
+abbrev pub woken : View ℕ → SegmentState ℕ
+woken giver = record {
+  words = 0 ∷ 0 ∷ 1 ∷ [];
+  homes = [];
+  views = record new_hub { out = 2 } ∷ sleeper ∷ giver ∷ [];
+}
+
+abbrev pub giver : View ℕ
+giver = gives_token blank

@@ -21,6 +21,13 @@ owed v = v.duty.wakes + v.duty.looks + v.duty.fresh + v.duty.closing
 abbrev pub closing : {T : Type 0} → View T → ℕ
 closing v = v.duty.closing
 
+-- the tokens that it gave, and those that it took
+abbrev pub tokens_given : {T : Type 0} → View T → ℕ
+tokens_given v = v.tokens.gave
+
+abbrev pub tokens_taken : {T : Type 0} → View T → ℕ
+tokens_taken v = v.tokens.took
+
 -- each that sleeps has a token; or no more values wait than there are tokens given and debts owed
 abbrev pub Quiet : ℕ → ℕ → ℕ → ℕ → Type 0
 Quiet waiting tokens asleep owes = (asleep ≤ tokens) ⊎ (waiting ≤ tokens + owes)

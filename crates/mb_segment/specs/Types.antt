@@ -8,4 +8,5 @@ pub use Rattle.mb_segment.specs.declared.view.Role.{Role}
 pub use Rattle.mb_segment.specs.declared.view.Role.TheVariants.{Issuer, Member, Spent}
 pub use Rattle.mb_segment.specs.declared.view.Sight.{Sight}
 pub use Rattle.mb_segment.specs.declared.view.Spot.{Spot}
+pub use Rattle.mb_segment.specs.declared.view.Tokens.{Tokens}
 pub use Rattle.mb_segment.specs.declared.view.View.{View}

@@ -1,10 +1,10 @@
 //! The laws of a segment, over all histories. The functions compute nothing: their contracts are the laws.
-ghost use Rattle.std.specs.Prelude.{List, Some, [], length, true, ℕ, ◌+◌, ◌<◌, ◌∷◌, ◌≡◌, ◌≤◌, ◌⊎◌};
+ghost use Rattle.std.specs.Prelude.{List, Some, [], length, slice_index, true, ℕ, ◌%◌, ◌+◌, ◌<◌, ◌∷◌, ◌≡◌, ◌≤◌, ◌⊎◌};
 ghost use mathlib.Core.Option.{some};
 ghost use lib.ListN.{get_elem?};
 ghost use Rattle.mb_segment.specs.{Claim, Entry, Has, IsCut, IsOfPass, IsOver, IsPassOf, IsViewOf, Issuer, Keeps, Match, Member};
 ghost use Rattle.mb_segment.specs.{Rises, SawAllTaken, SegmentState, View, all_entries, claimed_in, closing, drawn_in};
-ghost use Rattle.mb_segment.specs.{got_by, is_over, listed, new_hub, owed, sent_by, sleeping, total};
+ghost use Rattle.mb_segment.specs.{got_by, is_over, listed, new_hub, owed, sent_by, sleeping, tokens_given, tokens_taken, total};
 
 /// All positions drawn stand in one order, and the first of them are those claimed. What a pass sent and what it
 /// received stand there in its own order. What is drawn or claimed next stands after all that was before.
@@ -73,7 +73,7 @@ pub fn one_cutter<T>()
 
 /// Between any two steps: if a receiver sleeps without a token, no more values wait than there are tokens given and debts
 /// owed: looks, wakes, and what closers owe. And if no more will be drawn, a closer still owes tokens. Whoever owes or is
-/// in the list is a pass that is out.
+/// in the list is a pass that is out. A token that was given is in the list's word until it is taken.
 pub fn no_wake_up_is_lost<T>()
     ensures owed { (s : SegmentState T) (k : Keeps s) → 0 < total sleeping s.views
         → claimed_in s < drawn_in s → 0 < k.tokens + total owed s.views }
@@ -83,4 +83,6 @@ pub fn no_wake_up_is_lost<T>()
         → IsOver s → 0 < total closing s.views }
     ensures debtor { (s : SegmentState T) (k : Keeps s) (n : ℕ) (v : View T) → IsViewOf s n v
         → 0 < owed v + listed v → v.role ≡ Member }
+    ensures given { (s : SegmentState T) (k : Keeps s) → total tokens_given s.views
+        ≡ slice_index s.words 2 % 4294967296 + total tokens_taken s.views }
 {}

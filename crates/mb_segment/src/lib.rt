@@ -51,5 +51,5 @@ pub use answers::{Cut, Draw, Leave, Look, Rest, Wake};
 pub use idle::Idle;
 pub use left::Left;
 pub use segment::{Hub, Pass, Segment};
-pub use view::{Account, Duty, Half, Known, Role, Sight, Spot, View};
+pub use view::{Account, Duty, Half, Known, Role, Sight, Spot, Tokens, View};
 pub use waiting::{NotSent, Received};

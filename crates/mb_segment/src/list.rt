@@ -1,17 +1,17 @@
 //! Each atomic step on the list of those that wait, and the sleep itself.
 ghost use Rattle.std.specs.Prelude.{ℕ, ◌%◌, ◌+◌, ◌<◌, ◌≡◌, ◌≢◌, ◌≤◌};
-ghost use Rattle.mb_segment.specs.{Becomes, IsStill, Member, enters, gives_up, goes_unseen, hands_on, has_closed, has_woken};
-ghost use Rattle.mb_segment.specs.{leaves, leaves_with_token, same, view_in, wakes_up, with_duty};
+ghost use Rattle.mb_segment.specs.{Becomes, IsStill, Member, enters, gives_token, gives_up, goes_unseen, hands_on};
+ghost use Rattle.mb_segment.specs.{has_closed, has_woken, leaves, leaves_with_token, takes_token, view_in, wakes_up, with_duty};
 
 use crate::effects::{
     Enters, GivesUp, GoesUnseen, HandsOn, HasClosed, HasWoken, Leaves, LeavesWithToken, Same,
     WakesUp,
 };
-use crate::rule::{Always, Exchanges, NoneWaits};
+use crate::rule::{Always, Exchanges, Gives, NoneWaits, Takes};
 use crate::segment::{Pass, Segment};
 use std::alloc::Allocator;
 use std::sync::Wait;
-use std::time::Duration;
+use std::time::{Clock, Duration, Instant};
 
 /// The word of the list: in its low half the tokens that were given and not taken, in its high half those that wait
 /// without a token.
@@ -26,20 +26,28 @@ impl<T: Drop, A: Allocator + Drop> Segment<T, A> {
         self.table.shared.peek(LIST)
     }
 
-    /// Sleeps until a token is there. It may also return for no reason.
-    pub(crate) fn park<R: Wait>(&self, rt: &R, pass: &Pass<T>)
+    /// Lets the thread sleep until a token is there. It may also return for no reason.
+    pub fn park<R: Wait>(&self, rt: &R, pass: &Pass<T>)
         requires asleep { 0 < (view_in pass.now).duty.asleep }
     {
         let _ = pass;
         self.table.shared.park(rt, LIST, 0);
     }
 
-    /// The same, for no longer than `most`.
-    pub(crate) fn park_for<R: Wait>(&self, rt: &R, pass: &Pass<T>, most: Duration)
+    /// The same until a deadline. It is `false` if that has come, or if there is no clock.
+    pub fn park_by<R: Wait + Clock>(&self, rt: &R, pass: &Pass<T>, deadline: Instant) -> bool
         requires asleep { 0 < (view_in pass.now).duty.asleep }
     {
         let _ = pass;
-        self.table.shared.park_timeout(rt, LIST, 0, most);
+        let left = match Instant::now(rt) {
+            Ok(now) => deadline.saturating_duration_since(now),
+            Err(_) => Duration::ZERO,
+        };
+        if left.is_zero() {
+            return false;
+        }
+        self.table.shared.park_timeout(rt, LIST, 0, left);
+        true
     }
 
     /// Wakes a thread for a token that was given.
@@ -84,12 +92,12 @@ impl<T: Drop, A: Allocator + Drop> Segment<T, A> {
         requires new { new + 4294967296 ≡ seen + 1 }
         ensures pass { IsStill pass.old pass.new }
         ensures given { result ≡ seen
-            → Becomes pass.old pass.new (with_duty has_woken (view_in pass.old)) }
+            → Becomes pass.old pass.new (with_duty has_woken (gives_token (view_in pass.old))) }
         ensures missed { result ≢ seen → Becomes pass.old pass.new (view_in pass.old) }
     {
         self.table
             .shared
-            .compare_exchange::<Exchanges<HasWoken>>(&mut pass.seat, LIST, seen, new)
+            .compare_exchange::<Gives<HasWoken>>(&mut pass.seat, LIST, seen, new)
     }
 
     /// The same for one that owes tokens to all, and still does then.
@@ -100,12 +108,12 @@ impl<T: Drop, A: Allocator + Drop> Segment<T, A> {
         requires new { new + 4294967296 ≡ seen + 1 }
         ensures pass { IsStill pass.old pass.new }
         ensures given { result ≡ seen
-            → Becomes pass.old pass.new (with_duty same (view_in pass.old)) }
+            → Becomes pass.old pass.new (gives_token (view_in pass.old)) }
         ensures missed { result ≢ seen → Becomes pass.old pass.new (view_in pass.old) }
     {
         self.table
             .shared
-            .compare_exchange::<Exchanges<Same>>(&mut pass.seat, LIST, seen, new)
+            .compare_exchange::<Gives<Same>>(&mut pass.seat, LIST, seen, new)
     }
 
     /// Enters the list, if it is still as it was seen.
@@ -146,12 +154,13 @@ impl<T: Drop, A: Allocator + Drop> Segment<T, A> {
         requires new { seen ≡ new + 1 }
         ensures pass { IsStill pass.old pass.new }
         ensures left { result ≡ seen
-            → Becomes pass.old pass.new (with_duty leaves_with_token (view_in pass.old)) }
+            → Becomes pass.old pass.new
+            (with_duty leaves_with_token (takes_token (view_in pass.old))) }
         ensures missed { result ≢ seen → Becomes pass.old pass.new (view_in pass.old) }
     {
         self.table
             .shared
-            .compare_exchange::<Exchanges<LeavesWithToken>>(&mut pass.seat, LIST, seen, new)
+            .compare_exchange::<Takes<LeavesWithToken>>(&mut pass.seat, LIST, seen, new)
     }
 
     /// A sleeper takes a token, if the list is still as it was seen. It then owes a look.
@@ -162,12 +171,12 @@ impl<T: Drop, A: Allocator + Drop> Segment<T, A> {
         requires new { seen ≡ new + 1 }
         ensures pass { IsStill pass.old pass.new }
         ensures woken { result ≡ seen
-            → Becomes pass.old pass.new (with_duty wakes_up (view_in pass.old)) }
+            → Becomes pass.old pass.new (with_duty wakes_up (takes_token (view_in pass.old))) }
         ensures missed { result ≢ seen → Becomes pass.old pass.new (view_in pass.old) }
     {
         self.table
             .shared
-            .compare_exchange::<Exchanges<WakesUp>>(&mut pass.seat, LIST, seen, new)
+            .compare_exchange::<Takes<WakesUp>>(&mut pass.seat, LIST, seen, new)
     }
 
     /// A sleeper stops waiting, and is about to leave.

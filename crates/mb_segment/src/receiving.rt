@@ -1,7 +1,7 @@
 //! The calls of receivers that never wait.
 ghost use Rattle.std.specs.Prelude.{Some, [], false, true, ◌+◌, ◌<◌, ◌∷◌, ◌≡◌, ◌≤◌};
 ghost use Rattle.mb_segment.specs.{Becomes, IsStill, MayTake, Member, Nothing, OfLeave, OfLook, OfRest, Reads, SawAllTaken, bare, done};
-ghost use Rattle.mb_segment.specs.{ended, enters, falls_asleep, found_empty, held_by, leaves, leaves_with_token, looked, marked_to, spot, told, took};
+ghost use Rattle.mb_segment.specs.{ended, enters, falls_asleep, found_empty, held_by, leaves, leaves_with_token, looked, marked_to, spot, takes_token, told, took};
 ghost use Rattle.mb_segment.specs.{view_in, wakes_up, with_duty};
 
 use crate::answers::{Leave, Look, Rest};
@@ -21,6 +21,7 @@ impl<T: Drop, A: Allocator + Drop> Segment<T, A> {
         ensures held { held_by pass.new ≡ held_by pass.old }
         ensures mark { marked_to (view_in pass.old) ≤ marked_to (view_in pass.new) }
         ensures found { found_empty (view_in pass.old) ≤ found_empty (view_in pass.new) }
+        ensures tokens { (view_in pass.new).tokens ≡ (view_in pass.old).tokens }
         ensures answer { OfLook result
             (λ at. (at < self.now.size) × ((view_in pass.new).sight.ripe ≡ Some at)
             × (bare (view_in pass.new) ≡ bare (view_in pass.old)))
@@ -54,6 +55,7 @@ impl<T: Drop, A: Allocator + Drop> Segment<T, A> {
         ensures held { held_by pass.new ≡ held_by pass.old }
         ensures mark { marked_to (view_in pass.old) ≤ marked_to (view_in pass.new) }
         ensures found { found_empty (view_in pass.old) ≤ found_empty (view_in pass.new) }
+        ensures tokens { (view_in pass.new).tokens ≡ (view_in pass.old).tokens }
         ensures answer { OfLook result
             (λ at. (at < self.now.size) × ((view_in pass.new).sight.ripe ≡ Some at)
             × (bare (view_in pass.new) ≡ bare (view_in pass.old)))
@@ -159,7 +161,7 @@ impl<T: Drop, A: Allocator + Drop> Segment<T, A> {
         requires asleep { 0 < (view_in pass.old).duty.asleep }
         ensures pass { IsStill pass.old pass.new }
         ensures answer { OfRest result
-            (Becomes pass.old pass.new (with_duty wakes_up (view_in pass.old)))
+            (Becomes pass.old pass.new (with_duty wakes_up (takes_token (view_in pass.old))))
             (Becomes pass.old pass.new (view_in pass.old)) }
     {
         let seen = self.peek_list();
@@ -180,7 +182,8 @@ impl<T: Drop, A: Allocator + Drop> Segment<T, A> {
         ensures pass { IsStill pass.old pass.new }
         ensures answer { OfLeave result
             (Becomes pass.old pass.new (with_duty leaves (view_in pass.old)))
-            (Becomes pass.old pass.new (with_duty leaves_with_token (view_in pass.old)))
+            (Becomes pass.old pass.new
+            (with_duty leaves_with_token (takes_token (view_in pass.old))))
             (Becomes pass.old pass.new (view_in pass.old)) }
     {
         let seen = self.peek_list();

@@ -100,6 +100,30 @@ impl<T, F: Effect> Play<Option<T>, View<T>> for Exchanges<F> {
     ghost then = { exchanging (with_duty F.of) };
 }
 
+/// The exchange that gives a token.
+pub struct Gives<F> {
+    of: PhantomData<F>,
+}
+
+impl<T, F: Effect> Play<Option<T>, View<T>> for Gives<F> {
+    ghost use Rattle.mb_segment.specs.Moves.{gives_token, with_duty};
+    ghost use Rattle.mb_segment.specs.Steps.{exchanging};
+
+    ghost then = { exchanging (λ v. with_duty F.of (gives_token v)) };
+}
+
+/// The exchange that takes a token.
+pub struct Takes<F> {
+    of: PhantomData<F>,
+}
+
+impl<T, F: Effect> Play<Option<T>, View<T>> for Takes<F> {
+    ghost use Rattle.mb_segment.specs.Moves.{takes_token, with_duty};
+    ghost use Rattle.mb_segment.specs.Steps.{exchanging};
+
+    ghost then = { exchanging (λ v. with_duty F.of (takes_token v)) };
+}
+
 /// A load that changes what is owed, whatever it finds.
 pub struct Always<F> {
     of: PhantomData<F>,

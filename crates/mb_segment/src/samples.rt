@@ -2,9 +2,9 @@
 //! contracts are the samples.
 ghost use Rattle.std.specs.Prelude.{List, [], ℕ, ◌∷◌, ◌≡◌};
 ghost use Rattle.mb_segment.specs.{IsCalm, IsCut, IsOver, IsWhole, Keeps, Rises, SawAllTaken, drawn_in, got_by, owes_wake};
-ghost use Rattle.mb_segment.specs.{sent_by, with_duty};
-ghost use Rattle.mb_segment.specs.SegmentSamples.{cutter, falling, foreknown, forgotten, history, overslept, receiver, saw};
-ghost use Rattle.mb_segment.specs.SegmentSamples.{sender, unpaid, unused, view};
+ghost use Rattle.mb_segment.specs.{blank, sent_by, with_duty};
+ghost use Rattle.mb_segment.specs.SegmentSamples.{cutter, falling, foreknown, forgotten, giver, history, overslept};
+ghost use Rattle.mb_segment.specs.SegmentSamples.{receiver, saw, sender, unpaid, unused, view, woken};
 
 /// The end. Two accounts and what is left of one history are admitted. Refused: a value that two received, two that cut,
 /// and a send to a position that its pass knew to be drawn.
@@ -15,7 +15,8 @@ pub fn sample_ends()
     ensures unheeded { (left : List ℕ) → IsWhole (foreknown ∷ receiver ∷ []) left → ⊥ }
 {}
 
-/// The rule. A new segment is admitted. Refused: one that is cut before a pass is issued, one whose hub owes a wake, and
+/// The rule. A new segment is admitted, and one with a token that a pass gave. Refused: a token that nobody gave, one that
+/// is cut before a pass is issued, one whose hub owes a wake, and
 /// two in which a receiver sleeps and nobody owes anything. In one of these a value waits, in the other no more will be
 /// drawn.
 pub fn sample_states()
@@ -24,6 +25,8 @@ pub fn sample_states()
     ensures overslept { Keeps overslept → ⊥ }
     ensures forgotten { Keeps forgotten → ⊥ }
     ensures unpaid { Keeps unpaid → ⊥ }
+    ensures given { Keeps (woken giver) }
+    ensures from_nobody { Keeps (woken blank) → ⊥ }
     ensures full { IsOver (unused 1) × (IsCut (unused 1) → ⊥) }
     ensures open { (IsOver (unused 0) → ⊥) × (drawn_in (unused 9223372036854775809) ≡ 1) }
 {}

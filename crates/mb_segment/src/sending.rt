@@ -1,7 +1,7 @@
 //! The calls of senders that never wait.
 ghost use Rattle.std.specs.Prelude.{None, [], ◌+◌, ◌<◌, ◌∷◌, ◌≡◌};
-ghost use Rattle.mb_segment.specs.{Becomes, IsFree, IsStill, MaySend, Member, OfCut, OfDraw, OfWake, OfWakeAll, Writes, did_cut};
-ghost use Rattle.mb_segment.specs.{drew, ended, has_closed, has_woken, held_by, owes_all, owes_wake, sees_cut, sees_full, spot};
+ghost use Rattle.mb_segment.specs.{Becomes, IsFree, IsStill, MaySend, Member, OfCut, OfDraw, OfWake, Writes, did_cut};
+ghost use Rattle.mb_segment.specs.{drew, ended, gives_token, has_closed, has_woken, held_by, owes_all, owes_wake, sees_cut, sees_full, spot};
 ghost use Rattle.mb_segment.specs.{view_in, with_duty};
 
 use crate::answers::{Cut, Draw, Wake};
@@ -66,13 +66,15 @@ impl<T: Drop, A: Allocator + Drop> Segment<T, A> {
             .store::<Ends>(&mut pass.seat, state_of(at), 1);
     }
 
-    /// Pays one wake that is owed: gives a token to one that waits, or finds that nobody does. Two accesses at most.
+    /// Pays one wake that is owed: gives a token to one that waits, or finds that nobody does. [`Wake::One`] is the answer
+    /// exactly if it gave a token. Two accesses at most.
     pub fn wake(&self, pass: &mut Pass<T>) -> Wake
         requires segment { pass.old.seat.table_id ≡ self.now.table.shared.table_id }
         requires owes { 0 < (view_in pass.old).duty.wakes }
         ensures pass { IsStill pass.old pass.new }
         ensures answer { OfWake result
             (Becomes pass.old pass.new (with_duty has_woken (view_in pass.old)))
+            (Becomes pass.old pass.new (with_duty has_woken (gives_token (view_in pass.old))))
             (Becomes pass.old pass.new (view_in pass.old)) }
     {
         let seen = self.see_sleepers(pass);
@@ -86,13 +88,14 @@ impl<T: Drop, A: Allocator + Drop> Segment<T, A> {
     }
 
     /// Gives a token to one of all that wait, for a pass that drew the last position or cut the segment. It owes this
-    /// until the answer is [`Wake::Nobody`]. Two accesses at most.
+    /// until the answer is [`Wake::Nobody`]. It is [`Wake::One`] exactly if it gave a token. Two accesses at most.
     pub fn wake_all(&self, pass: &mut Pass<T>) -> Wake
         requires segment { pass.old.seat.table_id ≡ self.now.table.shared.table_id }
         requires owes { 0 < (view_in pass.old).duty.closing }
         ensures pass { IsStill pass.old pass.new }
-        ensures answer { OfWakeAll result
+        ensures answer { OfWake result
             (Becomes pass.old pass.new (with_duty has_closed (view_in pass.old)))
+            (Becomes pass.old pass.new (gives_token (view_in pass.old)))
             (Becomes pass.old pass.new (view_in pass.old)) }
     {
         let seen = self.see_rest(pass);

@@ -53,6 +53,12 @@ pub struct Duty {
     pub closing: u64,
 }
 
+/// How many tokens of the list were given, and how many were taken.
+pub struct Tokens {
+    pub gave: u64,
+    pub took: u64,
+}
+
 /// What a pass saw of the words. It stays true.
 pub struct Sight {
     /// As many positions as this are claimed.
@@ -81,6 +87,8 @@ pub struct View<T> {
     pub known: Known,
     pub half: Half<T>,
     pub duty: Duty,
+    /// What it gave and took of the tokens. The hub counts those of the passes that came back.
+    pub tokens: Tokens,
     pub sight: Sight,
     /// It was told that the segment is done: no value can come any more.
     pub over: bool,

@@ -1,15 +1,15 @@
 //! The calls that wait: one send, and one receive that sleeps until a value comes.
 ghost use Rattle.std.specs.Prelude.{IfErr, IfNone, IfOk, IfSome, [], false, true, ℕ, ◌+◌, ◌++◌, ◌<◌, ◌∷◌, ◌≡◌, ◌≤◌, ◌⊎◌};
-ghost use Rattle.mb_segment.specs.{Becomes, IsCalm, IsFree, IsStill, MaySend, MayTake, Member, Nothing, OfFound, OfNotSent, OfReceived};
+ghost use Rattle.mb_segment.specs.{Becomes, BecomesUncounted, IsCalm, IsFree, IsStill, MaySend, MayTake, Member, Nothing, OfFound, OfNotSent, OfReceived};
 ghost use Rattle.mb_segment.specs.{SawAllTaken, bare, calm, did_cut, done, ended, enters, falls_asleep, found_empty, gives_up, got_at, has_closed, has_woken, held_by};
-ghost use Rattle.mb_segment.specs.{leaves, looked, marked_to, sees_cut, sent_at, told, took, value_of, view_in, wakes_up, with_duty};
+ghost use Rattle.mb_segment.specs.{leaves, looked, marked_to, sees_cut, sent_at, takes_token, told, took, value_of, view_in, wakes_up, with_duty};
 
 use crate::answers::{Cut, Draw, Leave, Look, Rest, Wake};
 use crate::segment::{Pass, Segment};
 use std::alloc::Allocator;
 use std::sync::Wait;
 use std::thread::yield_now;
-use std::time::{Clock, Duration, Instant};
+use std::time::{Clock, Instant};
 
 /// A value that could not be sent, since no more positions will be drawn.
 #[derive(Debug, Drop)]
@@ -40,12 +40,12 @@ enum Found<T> {
 }
 
 impl<T: Drop, A: Allocator + Drop> Segment<T, A> {
-    /// Pays one wake that is owed.
+    /// Pays one wake that is owed. If it gives a token, it wakes a thread.
     pub fn pay<R: Wait>(&self, rt: &R, pass: &mut Pass<T>)
         requires segment { pass.old.seat.table_id ≡ self.now.table.shared.table_id }
         requires owes { 0 < (view_in pass.old).duty.wakes }
         ensures pass { IsStill pass.old pass.new }
-        ensures paid { Becomes pass.old pass.new (with_duty has_woken (view_in pass.old)) }
+        ensures paid { BecomesUncounted pass.old pass.new (with_duty has_woken (view_in pass.old)) }
     {
         for _ in rt.forever() {
             match self.wake(pass) {
@@ -60,12 +60,14 @@ impl<T: Drop, A: Allocator + Drop> Segment<T, A> {
         unreachable!()
     }
 
-    /// Gives a token to each that waits, for a pass that drew the last position or cut the segment.
+    /// Gives a token to each that waits, and wakes a thread for each, for a pass that drew the last position or cut the
+    /// segment.
     pub fn pay_all<R: Wait>(&self, rt: &R, pass: &mut Pass<T>)
         requires segment { pass.old.seat.table_id ≡ self.now.table.shared.table_id }
         requires owes { 0 < (view_in pass.old).duty.closing }
         ensures pass { IsStill pass.old pass.new }
-        ensures paid { Becomes pass.old pass.new (with_duty has_closed (view_in pass.old)) }
+        ensures paid { BecomesUncounted pass.old pass.new
+            (with_duty has_closed (view_in pass.old)) }
     {
         for _ in rt.forever() {
             match self.wake_all(pass) {
@@ -117,7 +119,7 @@ impl<T: Drop, A: Allocator + Drop> Segment<T, A> {
         requires free { IsFree pass.old }
         ensures pass { IsStill pass.old pass.new }
         ensures cut { Becomes pass.old pass.new (sees_cut (view_in pass.old))
-            ⊎ Becomes pass.old pass.new (did_cut (view_in pass.old)) }
+            ⊎ BecomesUncounted pass.old pass.new (did_cut (view_in pass.old)) }
     {
         for _ in rt.forever() {
             match self.cut(pass) {
@@ -218,7 +220,7 @@ impl<T: Drop, A: Allocator + Drop> Segment<T, A> {
         requires segment { pass.old.seat.table_id ≡ self.now.table.shared.table_id }
         requires leaving { 0 < (view_in pass.old).duty.leaving }
         ensures pass { IsStill pass.old pass.new }
-        ensures left { Becomes pass.old pass.new (with_duty leaves (view_in pass.old)) }
+        ensures left { BecomesUncounted pass.old pass.new (with_duty leaves (view_in pass.old)) }
     {
         for _ in rt.forever() {
             match self.leave(pass) {
@@ -238,7 +240,8 @@ impl<T: Drop, A: Allocator + Drop> Segment<T, A> {
         requires segment { pass.old.seat.table_id ≡ self.now.table.shared.table_id }
         requires asleep { 0 < (view_in pass.old).duty.asleep }
         ensures pass { IsStill pass.old pass.new }
-        ensures woken { Becomes pass.old pass.new (with_duty wakes_up (view_in pass.old)) }
+        ensures woken { Becomes pass.old pass.new
+            (with_duty wakes_up (takes_token (view_in pass.old))) }
     {
         for _ in rt.forever() {
             match self.accept(pass) {
@@ -256,7 +259,8 @@ impl<T: Drop, A: Allocator + Drop> Segment<T, A> {
         requires asleep { 0 < (view_in pass.old).duty.asleep }
         ensures pass { IsStill pass.old pass.new }
         ensures woken { result ≡ true
-            → Becomes pass.old pass.new (with_duty wakes_up (view_in pass.old)) }
+            → Becomes pass.old pass.new
+            (with_duty wakes_up (takes_token (view_in pass.old))) }
         ensures late { result ≡ false
             → Becomes pass.old pass.new (with_duty gives_up (view_in pass.old)) }
     {
@@ -264,12 +268,10 @@ impl<T: Drop, A: Allocator + Drop> Segment<T, A> {
             match self.accept(pass) {
                 Rest::Woken => return true,
                 Rest::Sleep => {
-                    let most = left_until(rt, deadline);
-                    if most.is_zero() {
+                    if !self.park_by(rt, pass, deadline) {
                         self.give_up(pass);
                         return false;
                     }
-                    self.park_for(rt, pass, most);
                 }
                 Rest::Again => {}
             }
@@ -368,13 +370,5 @@ impl<T: Drop, A: Allocator + Drop> Segment<T, A> {
             }
         }
         unreachable!()
-    }
-}
-
-/// How long it is until the deadline. Zero if it has come, or if there is no clock.
-fn left_until<R: Clock>(rt: &R, deadline: Instant) -> Duration {
-    match Instant::now(rt) {
-        Ok(now) => deadline.saturating_duration_since(now),
-        Err(_) => Duration::ZERO,
     }
 }

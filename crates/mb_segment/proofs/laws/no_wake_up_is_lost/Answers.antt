@@ -1,7 +1,7 @@
 use Rattle.mb_segment.proofs.Base.{arith, length, slice_index, ⊎_elim, ◌-◌}
 use Rattle.mb_segment.specs.Vocabulary.{drawn}
 use Rattle.mb_segment.proofs.Halves.{is_out}
-use Rattle.mb_segment.proofs.Kept.{at0, at1}
+use Rattle.mb_segment.proofs.Kept.{at0, at1, at2}
 use Rattle.mb_segment.proofs.LookMoves.{none_free}
 use Rattle.mb_segment.proofs.Places.{drawn_is}
 use Rattle.mb_segment.proofs.laws.no_wake_up_is_lost.Goals as goal
@@ -23,3 +23,6 @@ returns-clause-over g c s k few over =
 
 pub returns-clause-debtor : goal.returns-clause-debtor
 returns-clause-debtor g c s k n v at some_ = is_out v (k.fits n v at).debt some_
+
+pub returns-clause-given : goal.returns-clause-given
+returns-clause-given g c s k = let l = at2 s k in let n = k.narrow in let t = k.given in omega arith

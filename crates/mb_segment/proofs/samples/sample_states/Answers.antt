@@ -1,10 +1,11 @@
-use Rattle.mb_segment.proofs.Base.{ap, arith, length, refl, ⊎_elim, ◌-◌, ◌≡◌}
-use Rattle.mb_segment.specs.SegmentSamples.{forgotten, overslept, unused}
-use Rattle.mb_segment.specs.Vocabulary.{Duty, drawn, free, new_hub, owes_wake, with_duty}
-use Rattle.mb_segment.proofs.Halves.{hub_is_no_member}
-use Rattle.mb_segment.proofs.Kept.{at0, at1, at2}
+use Rattle.mb_segment.proofs.Base.{[], ap, arith, get_elem?, inl, length, refl, some, some-injective, some-ne-none, subst, suc, sym}
+use Rattle.mb_segment.proofs.Base.{None, zero, ℕ, ⊎_elim, ◌-◌, ◌∷◌, ◌≡◌, ◌≢◌}
+use Rattle.mb_segment.specs.SegmentSamples.{forgotten, giver, overslept, sleeper, unused, woken}
+use Rattle.mb_segment.specs.Vocabulary.{Duty, Fits, History, Issuer, Keeps, Member, View, blank, drawn, free, new_hub, owes_wake, with_duty}
+use Rattle.mb_segment.proofs.Halves.{hub_is_no_member, hub_is_not_spent, spent_is_no_member}
+use Rattle.mb_segment.proofs.Kept.{at0, at1, at2, refit}
 use Rattle.mb_segment.proofs.LookMoves.{none_free}
-use Rattle.mb_segment.proofs.PassMoves.{opens}
+use Rattle.mb_segment.proofs.PassMoves.{opens, unseen}
 use Rattle.mb_segment.proofs.Places.{new_open}
 use Rattle.mb_segment.proofs.samples.sample_states.Goals as goal
 
@@ -32,3 +33,67 @@ pub returns-clause-unpaid : goal.returns-clause-unpaid
 returns-clause-unpaid c k =
     let f = k.fits 0 (with_duty owes_wake new_hub) refl in
     let q = ap (λ (d : Duty). d.wakes) (f.debt hub_is_no_member) in absurd (omega arith)
+
+-- ---- a segment with no position, in which a sleeper has a token
+abbrev two_out : View ℕ
+two_out = record new_hub { out = 2 }
+
+abbrev no_entry : History ℕ
+no_entry = record { claims = []; rest = []; cutter = None }
+
+is_pass : (n : ℕ) → n ≢ 0 → Fits no_entry [] 0 0 [] n blank
+is_pass n apart = unseen no_entry [] 0 0 [] n Member
+    (λ _. record { sent = refl; got = refl; cut = refl; no_hub = apart; not_back = λ in_. in_ })
+    (λ e. absurd (hub_is_no_member (sym e))) (λ e. absurd (spent_is_no_member (sym e)))
+
+fits_woken : (n : ℕ) (v : View ℕ) → get_elem? (two_out ∷ sleeper ∷ giver ∷ []) n ≡ some v
+    → Fits no_entry [] 0 0 [] n v
+fits_woken zero v at = subst (λ (u : View ℕ). Fits no_entry [] 0 0 [] 0 u) (some-injective two_out v at)
+    (refit no_entry [] 0 0 [] 0 new_hub two_out (refl, refl, refl, refl, refl, refl, refl, λ _ e. e)
+    (unseen no_entry [] 0 0 [] 0 Issuer (λ e. absurd (hub_is_no_member e)) (λ _. (refl, tt))
+    (λ e. absurd (hub_is_not_spent Issuer refl e))))
+fits_woken (suc zero) v at = subst (λ (u : View ℕ). Fits no_entry [] 0 0 [] 1 u) (some-injective sleeper v at)
+    (refit no_entry [] 0 0 [] 1 blank sleeper (refl, refl, refl, refl, refl, refl, refl, λ no_ e. absurd (no_ refl))
+    (is_pass 1 (λ q. omega arith)))
+fits_woken (suc (suc zero)) v at = subst (λ (u : View ℕ). Fits no_entry [] 0 0 [] 2 u) (some-injective giver v at)
+    (refit no_entry [] 0 0 [] 2 blank giver (refl, refl, refl, refl, refl, refl, refl, λ _ e. e)
+    (is_pass 2 (λ q. omega arith)))
+fits_woken (suc (suc (suc n))) v at = absurd (some-ne-none v (sym at))
+
+pub keeps_woken : Keeps (woken giver)
+keeps_woken = record {
+  history = no_entry;
+  states = [];
+  tokens = 1;
+  waiting = 0;
+  cut = 0;
+  words = refl;
+  narrow = omega arith;
+  sized = refl;
+  small = omega arith;
+  within = omega arith;
+  cutter = refl;
+  undrawn = λ k le lt. absurd (omega arith);
+  waits = λ k e le at. absurd (some-ne-none e (sym at));
+  taken_ = λ k c at. absurd (some-ne-none c (sym at));
+  counted = refl;
+  given = refl;
+  quiet = inl (omega arith);
+  shut = inl (omega arith);
+  hub = 0;
+  roll = [];
+  idle = (refl, refl, refl);
+  apart = tt;
+  rolled = λ n in_. absurd in_;
+  known = omega arith;
+  out_ = refl;
+  newborn = λ n l. (refl, refl, refl);
+  fits = fits_woken;
+}
+
+pub returns-clause-given : goal.returns-clause-given
+returns-clause-given c = keeps_woken
+
+pub returns-clause-from_nobody : goal.returns-clause-from_nobody
+returns-clause-from_nobody c k =
+    let l = at2 (woken blank) k in let n = k.narrow in let t = k.given in absurd (omega arith)

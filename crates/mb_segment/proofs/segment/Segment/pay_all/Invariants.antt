@@ -1,8 +1,9 @@
 use Rattle.std.proofs.Common.{◌≡◌}
+use Rattle.mb_segment.specs.Vocabulary.{uncounted}
 use Rattle.mb_segment.proofs.segment.Segment.pay_all.Given as goal
 
 abbrev pub invariant-loop : goal.invariant-loop
 invariant-loop g l =
     (goal.iterator-loop g).can_next l.iterator' × (goal.iterator-loop g).is_finite l.iterator'
     × (l.pass.seat.table_id ≡ l.initial.pass.seat.table_id) × (l.pass.seat.id ≡ l.initial.pass.seat.id)
-    × (l.pass.seat.me.0 ≡ l.initial.pass.seat.me.0) × (l.pass.seat.me.1 ≡ l.initial.pass.seat.me.1)
+    × (uncounted l.pass.seat.me.0 ≡ uncounted l.initial.pass.seat.me.0) × (l.pass.seat.me.1 ≡ l.initial.pass.seat.me.1)
