@@ -41,6 +41,7 @@ mod rule;
 pub mod samples;
 mod segment;
 mod sending;
+mod soon;
 #[cfg(test)]
 mod tests;
 mod view;
