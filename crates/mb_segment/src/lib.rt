@@ -52,5 +52,6 @@ pub use answers::{Cut, Draw, Leave, Look, Rest, Wake};
 pub use idle::Idle;
 pub use left::Left;
 pub use segment::{Hub, Pass, Segment};
+pub use soon::pause;
 pub use view::{Account, Duty, Half, Known, Role, Sight, Spot, View};
 pub use waiting::{NotSent, Received};

@@ -10,18 +10,19 @@ use std::hint::spin_loop;
 use std::sync::Wait;
 use std::thread::yield_now;
 
-/// How many looks have a pause behind them, and how many of these pauses spin.
+/// How many looks have a pause behind them.
 const LOOKS: u32 = 10;
 
+/// How many pauses spin.
 const SPINS: u32 = 6;
 
-/// What follows on a look that found nothing: a spin that is twice as long each time, and then yields.
-fn pause(look: u32) {
-    if look >= SPINS {
+/// A pause between two tries, of which there were so many before: a spin that is twice as long each time, then a yield.
+pub fn pause(tries: u32) {
+    if tries >= SPINS {
         yield_now();
         return;
     }
-    for _ in 0..1u32 << look {
+    for _ in 0..1u32 << tries {
         spin_loop();
     }
 }
