@@ -40,6 +40,7 @@ mod rest;
 mod rule;
 pub mod samples;
 mod sends;
+mod stuck;
 #[cfg(test)]
 mod sleep_tests;
 #[cfg(test)]

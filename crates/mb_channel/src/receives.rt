@@ -9,7 +9,6 @@ use crate::end::Receiver;
 use crate::tried::Tried;
 use mb_segment::Received;
 use std::sync::Wait;
-use std::thread::yield_now;
 use std::time::{Clock, Instant};
 
 /// How often a call that never waits leaves a segment or comes to one, at most.
@@ -47,9 +46,11 @@ impl<T: Drop> Channel<T> {
         ensures closed { IfErr result (λ why. IfClosed why (IsBehind receiver.new.end)) }
         ensures sent { sent_by receiver.new.end ≡ sent_by receiver.old.end }
     {
+        let mut stuck = 0;
         for _ in rt.forever() {
+            let place = receiver.end.place();
             self.go_on(&mut receiver.end, true)?;
-            yield_now();
+            stuck = receiver.end.pause_if_at(place, stuck);
             if let Some(value) = receiver.end.receive(rt) {
                 return Ok(value);
             }
@@ -77,20 +78,19 @@ impl<T: Drop> Channel<T> {
         ensures closed { IfErr result (λ why. IfClosed why (IsBehind receiver.new.end)) }
         ensures sent { sent_by receiver.new.end ≡ sent_by receiver.old.end }
     {
+        let mut stuck = 0;
         for _ in rt.forever() {
             match receiver.end.receive_by(rt, deadline) {
                 Received::Value(value) => return Ok(Some(value)),
                 Received::TimedOut => return Ok(None),
                 Received::Over => {}
             }
+            let place = receiver.end.place();
             let there = self.go_on(&mut receiver.end, true)?;
-            if receiver.end.inside.is_some() {
-                continue;
-            }
             if !there && is_past(rt, deadline) {
                 return Ok(None);
             }
-            yield_now();
+            stuck = receiver.end.pause_if_at(place, stuck);
         }
         unreachable!()
     }

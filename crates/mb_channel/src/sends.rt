@@ -6,7 +6,6 @@ ghost use Rattle.mb_channel.specs.Ends.{IsEndOf, IsSame, SawOver, got_by, sent_b
 use crate::channel::{Channel, Refused};
 use crate::end::Sender;
 use std::sync::Wait;
-use std::thread::yield_now;
 
 /// A value that was not sent, and why.
 #[derive(Debug, Drop)]
@@ -57,11 +56,13 @@ impl<T: Drop> Channel<T> {
         ensures got { got_by sender.new.end ≡ got_by sender.old.end }
     {
         let mut value = value;
+        let mut stuck = 0;
         for _ in rt.forever() {
+            let place = sender.end.place();
             if let Err(why) = self.go_on(&mut sender.end, false) {
                 return Err(NotSent { value, why });
             }
-            yield_now();
+            stuck = sender.end.pause_if_at(place, stuck);
             match sender.end.send(rt, value) {
                 Ok(()) => return Ok(()),
                 Err(back) => value = back,

@@ -41,6 +41,7 @@ mod rule;
 pub mod samples;
 mod segment;
 mod sending;
+mod soon;
 #[cfg(test)]
 mod tests;
 mod view;
@@ -51,5 +52,6 @@ pub use answers::{Cut, Draw, Leave, Look, Rest, Wake};
 pub use idle::Idle;
 pub use left::Left;
 pub use segment::{Hub, Pass, Segment};
+pub use soon::pause;
 pub use view::{Account, Duty, Half, Known, Role, Sight, Spot, Tokens, View};
 pub use waiting::{NotSent, Received};

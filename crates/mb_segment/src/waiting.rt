@@ -33,7 +33,7 @@ pub enum Received<T> {
 
 /// What was found by looks that wait for no sleep.
 #[derive(Drop)]
-enum Found<T> {
+pub(crate) enum Found<T> {
     Value(T),
     Empty,
     Over,
@@ -135,7 +135,7 @@ impl<T: Drop, A: Allocator + Drop> Segment<T, A> {
     }
 
     /// Takes the first value, or finds that none is there. Yields while the next position is drawn and not marked.
-    fn find<R: Wait>(&self, rt: &R, pass: &mut Pass<T>) -> Found<T>
+    pub(crate) fn find<R: Wait>(&self, rt: &R, pass: &mut Pass<T>) -> Found<T>
         requires segment { pass.old.seat.table_id ≡ self.now.table.shared.table_id }
         requires member { (view_in pass.old).role ≡ Member }
         requires idle { ((view_in pass.old).half ≡ Nothing) × (held_by pass.old ≡ []) }
@@ -293,7 +293,7 @@ impl<T: Drop, A: Allocator + Drop> Segment<T, A> {
         ensures free { IsFree pass.new }
     {
         for _ in rt.forever() {
-            match self.find(rt, pass) {
+            match self.find_soon(rt, pass) {
                 Found::Value(value) => return Some(value),
                 Found::Over => return None,
                 Found::Empty => {}
@@ -342,7 +342,7 @@ impl<T: Drop, A: Allocator + Drop> Segment<T, A> {
     {
         for _ in rt.forever() {
             // A value that is there is taken without the list.
-            match self.find(rt, pass) {
+            match self.find_soon(rt, pass) {
                 Found::Value(value) => return Received::Value(value),
                 Found::Over => return Received::Over,
                 Found::Empty => {}
