@@ -1,6 +1,6 @@
 -- The load of the number drawn, after one of the number claimed, keeps the rule.
 use Rattle.mb_ring.proofs.Base.{Allows, List, [], ap, arith, dec_le, dec_lt, get_elem?, inl, inr, keeps, length, none}
-use Rattle.mb_ring.proofs.Base.{refl, slice_index, some, step, subst, sym, ℕ, ⊎_elim, ◌%◌, ◌<◌, ◌≡◌, ◌≤◌}
+use Rattle.mb_ring.proofs.Base.{refl, slice_index, some, step, subst, sym, ℕ, ⊎_elim, ◌%◌, ◌+◌, ◌<◌, ◌≡◌, ◌≤◌}
 use Rattle.mb_segment.proofs.Spots.{all_length, below_by, nothing_left}
 use Rattle.mb_ring.specs.Vocabulary.{Below, Fits, Issuer, Keeps, Member, Role, SawAllTaken, Sat, Spent, Spot, View}
 use Rattle.mb_ring.specs.Vocabulary.{all_entries, drawn, looking, sees_drawn, sees_empty, told, Duty, done, falls_asleep}
@@ -87,7 +87,7 @@ module _ {T : Type 0} where
         tt,
         loaded s 0 i me.1 w (settled s k i me.0 w at l refl refl refl
             (sighted k.history k.size k.states k.cut k.hub k.roll i (with_duty f me.0)
-            record me.0.sight { empty = r }
+            record me.0.sight { empty = r; found = me.0.sight.found + 1 }
             (refit k.history k.size k.states k.cut k.hub k.roll i me.0 (f me.0.duty) lf.2 fit)
             record {
               low = y.low;

@@ -1,8 +1,9 @@
 -- The loads keep the rule: of the number drawn and claimed, and of the words of slots.
 use Rattle.mb_ring.proofs.Base.{Allows, Bool, List, None, Option, Some, [], ap, arith, false, true, dec_le, dec_lt}
 use Rattle.mb_ring.proofs.Base.{get_elem?, keeps, length, none, refl, slice_index, some, step, subst, suc, sym, ℕ, ⊎_elim}
-use Rattle.mb_ring.proofs.Base.{◌%◌, ◌*◌, ◌+◌, ◌<◌, ◌∷◌, ◌≡◌, ◌≤◌}
+use Rattle.mb_ring.proofs.Base.{◌%◌, ◌*◌, ◌+◌, ◌<◌, ◌∙◌, ◌∷◌, ◌≡◌, ◌≤◌}
 use Rattle.mb_segment.proofs.Base.{if◌then◌else◌, nat_eq}
+use Rattle.mb_segment.proofs.Places.{is_cutter}
 use Rattle.mb_segment.proofs.Spots.{same_some}
 use Rattle.mb_ring.specs.Vocabulary.{Below, Claim, Fits, Issuer, Keeps, KnowsCut, Member, Role, SawAllGot, Sat, Spent}
 use Rattle.mb_ring.specs.Vocabulary.{Spot, View, asking, counting, mark_in, seeing_cut, seeing_mark, seeing_room}
@@ -57,9 +58,11 @@ module _ {T : Type 0} where
       go s k at (no high) = let c = cut_seen i me s k at (omega arith) in
           (c.0, c.1, c.2, c.3, ((λ _. c.4), λ lt. absurd (high lt)))
 
-  -- a ring is cut once a pass was told so
+  -- a ring is cut once a pass was told so, or cut it
   known_cut : (s : St T) (k : Keeps s) (i : ℕ) (v : View T) → get_elem? s.views i ≡ some v → KnowsCut v → 0 < k.cut
-  known_cut s k i v at told_ = ⊎_elim (k.fits i v at).sight.cut_ (λ on. ((k.fits i v at).over on).0) told_
+  known_cut s k i v at told_ = ⊎_elim (k.fits i v at).sight.cut_ (⊎_elim (λ on. ((k.fits i v at).over on).0)
+      (λ did. let q = is_cutter i k.history.cutter (sym ((k.fits i v at).member did.0).cut ∙ did.1) in
+      let w = k.cutter in let some_ = q.0 in omega arith)) told_
 
   pub asks : (slots i : ℕ) (me : Sat T) → Allows Keeps slots i me 0 (λ r. r) (asking (step slots 0 0 0 none) me)
   asks slots i me = steps slots i me 0 (λ r. r) (asking (step slots 0 0 0 none) me)
@@ -238,7 +241,7 @@ module _ {T : Type 0} where
             sees_full r me.0,
             keeps,
             tt,
-            sees s k 1 i me.0 at me.1 record me.0.sight { full = Some r } record {
+            sees s k 1 i me.0 at me.1 record me.0.sight { full = Some r; refused = me.0.sight.refused + 1 } record {
               low = f.low;
               top = f.top;
               room = f.room;

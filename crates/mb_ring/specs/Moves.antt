@@ -62,11 +62,18 @@ did_cut v = record v { account = record v.account { cut = true }; sight = record
 
 -- it saw that all positions were claimed when n were drawn
 abbrev pub sees_empty : {T : Type 0} → ℕ → View T → View T
-sees_empty n v = record v { sight = record v.sight { empty = n } }
+sees_empty n v = record v { sight = record v.sight { empty = n; found = v.sight.found + 1 } }
+
+-- how often it saw that
+abbrev pub found_empty : {T : Type 0} → View T → ℕ
+found_empty v = v.sight.found
 
 -- it saw that all slots had values that wait when t positions were claimed
 abbrev pub sees_full : {T : Type 0} → ℕ → View T → View T
-sees_full t v = record v { sight = record v.sight { full = Some t } }
+sees_full t v = record v { sight = record v.sight { full = Some t; refused = v.sight.refused + 1 } }
+
+abbrev pub found_full : {T : Type 0} → View T → ℕ
+found_full v = v.sight.refused
 
 -- when it saw the ring empty, all was claimed that it had sent, and the mark that it saw last. True of a pass that sent
 -- nothing and saw no mark
@@ -82,9 +89,9 @@ SawAllGot v = (t : ℕ) → v.sight.full ≡ Some t → Below t v.account.got
 abbrev pub told : {T : Type 0} → View T → View T
 told v = record v { over = true }
 
--- it was told that the ring is cut, or that no value can come any more
+-- it was told that the ring is cut, or that no value can come any more; or it is a pass's, which cut the ring
 abbrev pub KnowsCut : {T : Type 0} → View T → Type 0
-KnowsCut v = (v.sight.cut ≡ true) ⊎ (v.over ≡ true)
+KnowsCut v = (v.sight.cut ≡ true) ⊎ (v.over ≡ true) ⊎ ((v.role ≡ Member) × (v.account.cut ≡ true))
 
 -- the view is a pass's, which was told that no value can come any more
 abbrev pub KnowsOver : {T : Type 0} → View T → Type 0

@@ -29,7 +29,7 @@ abbrev pub closing : {T : Type 0} → View T → ℕ
 closing v = v.duty.closing
 
 abbrev pub blind : Sight
-blind = record { low = 0; top = 0; room = None; ripe = None; cut = false; empty = 0; full = None }
+blind = record { low = 0; top = 0; room = None; ripe = None; cut = false; empty = 0; found = 0; full = None; refused = 0 }
 
 -- a pass that did nothing, saw nothing and owes nothing
 abbrev pub blank : {T : Type 0} → View T

@@ -1,7 +1,7 @@
 -- Rings of numbers: some that the definitions admit, and some that they refuse. Pass 1 sends, pass 2 receives.
-use Rattle.std.specs.Prelude.{List, None, Option, Some, [], ℕ, ◌∷◌}
+use Rattle.std.specs.Prelude.{List, None, Option, Some, [], true, ℕ, ◌∷◌}
 use mathlib.Core.Option.{some}
-use Rattle.mb_segment.specs.Passes.{no_duty}
+use Rattle.mb_segment.specs.Passes.{no_duty, nothing_done}
 use Rattle.mb_ring.specs.Types.{Nothing, View}
 use Rattle.mb_ring.specs.Passes.{blank, new_hub}
 use Rattle.mb_ring.specs.Moves.{drew, sees_empty, sees_full, took}
@@ -28,6 +28,10 @@ saw_empty n = sees_empty n sent
 
 abbrev pub saw_full : ℕ → View ℕ
 saw_full n = sees_full n got
+
+-- it cut the ring, and has forgotten what it saw
+abbrev pub cutter : View ℕ
+cutter = record blank { account = record nothing_done { cut = true } }
 
 -- one slot. Two values wait, of which one is in it
 abbrev pub overfull : RingState ℕ

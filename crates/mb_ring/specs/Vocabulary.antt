@@ -7,7 +7,8 @@ pub use Rattle.mb_segment.specs.Moves.{mark_in, or, owes_all, owes_wake, same, w
 pub use Rattle.mb_ring.specs.Types.{Account, Duty, Half, Issuer, Known, Member, Nothing, Reads, Role, Sight, Spent, Spot, View, Writes}
 pub use Rattle.mb_ring.specs.Slots.{HalfFits, HasHalf, Homes, IsTaken, Taken, Undrawn, Waiting, Waits, turn}
 pub use Rattle.mb_ring.specs.Passes.{blank, blind, closing, listed, member, new_hub, out, owed, sleeping, spent, total}
-pub use Rattle.mb_ring.specs.Moves.{IsCalm, KnowsCut, KnowsOver, MaySend, MayTake, SawAllGot, SawAllTaken, bare, blinded, calm, did_cut, drew, ended, got_at}
+pub use Rattle.mb_ring.specs.Moves.{IsCalm, KnowsCut, KnowsOver, MaySend, MayTake, SawAllGot, SawAllTaken, bare, blinded, calm, did_cut, drew, ended}
+pub use Rattle.mb_ring.specs.Moves.{found_empty, found_full, got_at}
 pub use Rattle.mb_ring.specs.Moves.{issued, marked_to, sees_cut, sees_drawn, sees_empty, sees_full, sees_mark, sees_room, sees_taken}
 pub use Rattle.mb_ring.specs.Moves.{sent_at, told, took, took_back, with_duty}
 pub use Rattle.mb_ring.specs.Rule.{Fits, Heard, IsHub, IsMember, Keeps, SightFits}

@@ -1,9 +1,9 @@
 //! Samples of the definitions: what they admit, and what only looks right. The functions compute nothing: their
 //! contracts are the samples.
 ghost use Rattle.std.specs.Prelude.{[], ◌∷◌, ◌≡◌};
-ghost use Rattle.mb_ring.specs.{IsCalm, IsCut, Keeps, SawAllGot, SawAllTaken, Stand, drawn_in, drew, owes_wake, turn};
-ghost use Rattle.mb_ring.specs.{with_duty};
-ghost use Rattle.mb_ring.specs.RingSamples.{boasting, forgotten, overfull, overslept, reused, saw_empty, saw_full, sent, two_slots, unused};
+ghost use Rattle.mb_ring.specs.{IsCalm, IsCut, Keeps, KnowsCut, SawAllGot, SawAllTaken, Stand, drawn_in, drew, found_full};
+ghost use Rattle.mb_ring.specs.{owes_wake, turn, with_duty};
+ghost use Rattle.mb_ring.specs.RingSamples.{boasting, cutter, forgotten, overfull, overslept, reused, saw_empty, saw_full, sent, two_slots, unused};
 
 /// The rule. A new ring is admitted. Refused: one that is cut before a pass is issued, and one with more values than
 /// slots. Refused too: one whose slot is free again before its value was taken, and one with a send that did not happen.
@@ -29,12 +29,16 @@ pub fn sample_slots()
 {}
 
 /// What a pass did and saw. Admitted: one that sent position 0 and saw one position claimed, and one that received it and
-/// saw the ring full when one was claimed. Refused: that none was claimed. A pass that has drawn is not at rest.
+/// saw the ring full once, when one was claimed. Refused: that none was claimed. Who cut the ring knows of it. Who only
+/// sent does not. A pass that has drawn is not at rest.
 pub fn sample_views()
     ensures taken { SawAllTaken (saw_empty 1) }
     ensures waits { SawAllTaken (saw_empty 0) → ⊥ }
     ensures full { SawAllGot (saw_full 1) }
     ensures early { SawAllGot (saw_full 0) → ⊥ }
+    ensures counted { found_full (saw_full 1) ≡ 1 }
+    ensures cutter { KnowsCut cutter }
+    ensures nobody { KnowsCut sent → ⊥ }
     ensures calm { IsCalm sent }
     ensures busy { IsCalm (drew 1 11 sent) → ⊥ }
     ensures owes { IsCalm (with_duty owes_wake sent) → ⊥ }

@@ -16,9 +16,13 @@ pub struct Sight {
     pub cut: bool,
     /// It saw the ring empty when as many positions as this were drawn. As many are claimed.
     pub empty: u64,
+    /// How often it saw the ring empty.
+    pub found: u64,
     /// It saw the ring full when as many positions as this were claimed. As many are claimed, and more are drawn: one for
     /// each slot.
     pub full: Option<u64>,
+    /// How often it saw the ring full.
+    pub refused: u64,
 }
 
 /// What the pass or the hub did, has begun, owes and saw.

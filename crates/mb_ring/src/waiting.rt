@@ -2,6 +2,7 @@
 ghost use Rattle.std.specs.Prelude.{IfErr, IfNone, IfOk, IfSome, Some, [], false, true, ℕ, ◌+◌, ◌++◌, ◌<◌, ◌∷◌, ◌≡◌, ◌≤◌, ◌⊎◌};
 ghost use Rattle.mb_ring.specs.{Becomes, IsCalm, IsFree, IsStill, MaySend, MayTake, Member, Nothing, OfFound, OfNotSent};
 ghost use Rattle.mb_ring.specs.{OfReceived, SawAllGot, SawAllTaken, blinded, calm, did_cut, done, ended, enters, falls_asleep};
+ghost use Rattle.mb_ring.specs.{found_empty, found_full};
 ghost use Rattle.mb_ring.specs.{gives_up, got_at, has_closed, has_woken, held_by, leaves, looked, marked_to, sees_cut};
 ghost use Rattle.mb_ring.specs.{sent_at, told, took, value_of, view_in, wakes_up, with_duty};
 
@@ -82,7 +83,10 @@ impl<T: Drop, A: Allocator + Drop> Ring<T, A> {
         ensures refused { IfErr result (λ e. (value_of e ≡ value)
             × (blinded (view_in pass.new) ≡ calm (view_in pass.old))
             × OfNotSent e ((t : ℕ) × ((view_in pass.new).sight.full ≡ Some t)
-            × SawAllGot (view_in pass.new)) ((view_in pass.new).sight.cut ≡ true)) }
+            × SawAllGot (view_in pass.new) × ((view_in pass.old).known.taken ≤ t)
+            × ((view_in pass.old).known.drawn ≤ t + self.now.size)
+            × (found_full (view_in pass.old) < found_full (view_in pass.new)))
+            ((view_in pass.new).sight.cut ≡ true)) }
         ensures free { IsFree pass.new }
     {
         for _ in rt.forever() {
@@ -131,13 +135,16 @@ impl<T: Drop, A: Allocator + Drop> Ring<T, A> {
         ensures pass { IsStill pass.old pass.new }
         ensures held { held_by pass.new ≡ [] }
         ensures mark { marked_to (view_in pass.old) ≤ marked_to (view_in pass.new) }
+        ensures found { found_empty (view_in pass.old) ≤ found_empty (view_in pass.new) }
         ensures answer { OfFound result
             (λ x. (at : ℕ)
             × (blinded (view_in pass.new)
             ≡ got_at at x (with_duty looked (blinded (view_in pass.old))))
             × MayTake (view_in pass.old))
             ((blinded (view_in pass.new) ≡ with_duty looked (blinded (view_in pass.old)))
-            × SawAllTaken (view_in pass.new))
+            × SawAllTaken (view_in pass.new)
+            × ((view_in pass.old).known.drawn ≤ (view_in pass.new).sight.empty)
+            × (found_empty (view_in pass.old) < found_empty (view_in pass.new)))
             (blinded (view_in pass.new) ≡ told (with_duty looked (blinded (view_in pass.old)))) }
     {
         for _ in rt.forever() {
@@ -164,13 +171,16 @@ impl<T: Drop, A: Allocator + Drop> Ring<T, A> {
         ensures pass { IsStill pass.old pass.new }
         ensures held { held_by pass.new ≡ [] }
         ensures mark { marked_to (view_in pass.old) ≤ marked_to (view_in pass.new) }
+        ensures found { found_empty (view_in pass.old) ≤ found_empty (view_in pass.new) }
         ensures answer { OfFound result
             (λ x. (at : ℕ)
             × (blinded (view_in pass.new)
             ≡ got_at at x (with_duty done (blinded (view_in pass.old))))
             × MayTake (view_in pass.old))
             ((blinded (view_in pass.new) ≡ with_duty falls_asleep (blinded (view_in pass.old)))
-            × SawAllTaken (view_in pass.new))
+            × SawAllTaken (view_in pass.new)
+            × ((view_in pass.old).known.drawn ≤ (view_in pass.new).sight.empty)
+            × (found_empty (view_in pass.old) < found_empty (view_in pass.new)))
             (blinded (view_in pass.new) ≡ told (with_duty done (blinded (view_in pass.old)))) }
     {
         for _ in rt.forever() {
@@ -322,8 +332,11 @@ impl<T: Drop, A: Allocator + Drop> Ring<T, A> {
             × MayTake (view_in pass.old))
             (blinded (view_in pass.new) ≡ told (calm (view_in pass.old)))
             ((blinded (view_in pass.new) ≡ calm (view_in pass.old))
-            × SawAllTaken (view_in pass.new)) }
+            × SawAllTaken (view_in pass.new)
+            × ((view_in pass.old).known.drawn ≤ (view_in pass.new).sight.empty)
+            × (found_empty (view_in pass.old) < found_empty (view_in pass.new))) }
         ensures mark { marked_to (view_in pass.old) ≤ marked_to (view_in pass.new) }
+        ensures found { found_empty (view_in pass.old) ≤ found_empty (view_in pass.new) }
         ensures free { IsFree pass.new }
     {
         for _ in rt.forever() {
