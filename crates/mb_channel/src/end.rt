@@ -95,6 +95,7 @@ impl<T: Drop> End<T> {
     ghost use Rattle.mb_segment.specs.Waiting.{OfReceived};
     ghost use Rattle.mb_channel.specs.Ends.{IsOver, got_by, sent_by, view_of};
     ghost use Rattle.mb_channel.specs.Receives.{IsLater, OfTried, SawEmpty};
+    ghost use Rattle.mb_channel.specs.Wakes.{Tells, wakes_of};
 
     /// Receives a value in the segment where the end is, until a deadline. An end that is in none is told that none can
     /// come there.
@@ -131,6 +132,7 @@ impl<T: Drop> End<T> {
             (got_by self.new ≡ got_by self.old)) }
         ensures none { IfNone result (IsOver self.new × (got_by self.new ≡ got_by self.old)) }
         ensures sent { sent_by self.new ≡ sent_by self.old }
+        ensures wakes { Tells 0 (wakes_of self.old) (wakes_of self.new) }
     {
         let inside = self.inside.take()?;
         let (inside, tried) = inside.try_receive();

@@ -102,6 +102,7 @@ impl<T: Drop> Inside<T> {
     ghost use Rattle.mb_segment.specs.Waiting.{OfReceived};
     ghost use Rattle.mb_channel.specs.Inside.{account_in, told_in, values};
     ghost use Rattle.mb_channel.specs.Receives.{OfTried, SawNothing, found_in};
+    ghost use Rattle.mb_channel.specs.Wakes.{Tells, wakes_in};
 
     /// Receives a value here, until a deadline.
     pub(crate) fn receive_by<R: Wait + Clock>(
@@ -137,6 +138,7 @@ impl<T: Drop> Inside<T> {
             × ((account_in result.0).got ≡ (account_in self).got)) }
         ensures found { found_in self ≤ found_in result.0 }
         ensures sent { (account_in result.0).sent ≡ (account_in self).sent }
+        ensures wakes { Tells 0 (wakes_in self) (wakes_in result.0) }
     {
         let Inside { segment, pass } = self;
         let mut pass = pass.pass();

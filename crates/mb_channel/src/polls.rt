@@ -83,6 +83,13 @@ impl<T: Drop> Asleep<T> {
     ghost use Rattle.mb_channel.specs.Standing.{NoMore, stand_with};
     ghost use Rattle.mb_channel.specs.Wakes.{Tells, after_polled, wakes_with};
 
+    /// The number of the segment where it sleeps.
+    pub fn place(&self) -> usize
+        ensures { result ≡ (view_in self.now.debtor.chair).at }
+    {
+        self.debtor.at
+    }
+
     /// Lets the thread sleep until a token is there, or for no reason. It changes nothing: call [`Asleep::wake_up`] next.
     pub fn sleep<R: Wait>(&self, rt: &R) {
         let Busy { segment, pass, .. } = &self.debtor.busy;
@@ -120,6 +127,13 @@ impl<T: Drop> Leaving<T> {
     ghost use Rattle.mb_channel.specs.Standing.{NoMore, stand_of, stand_with};
     ghost use Rattle.mb_channel.specs.Wakes.{Tells, one_if, wakes_of, wakes_with};
 
+    /// The number of the segment where the tokens are given. Only who sleeps there can take them.
+    pub fn place(&self) -> usize
+        ensures { result ≡ (view_in self.now.debtor.chair).at }
+    {
+        self.debtor.at
+    }
+
     /// Leaves the list, and gives the tokens that are owed. It wakes a thread for each.
     pub fn pay<R: Wait>(self, rt: &R) -> Receiver<T>
         ensures { NoMore (stand_with self.debtor) (stand_of result.end) }
@@ -130,8 +144,9 @@ impl<T: Drop> Leaving<T> {
         }
     }
 
-    /// Tries to leave the list, or to give a token, and wakes nobody. If the answer has `true`, the caller has to wake one
-    /// thread that sleeps in the channel. The receiver comes back once it owes nothing more.
+    /// Tries to leave the list, or to give a token, and wakes nobody. The answer has `true` once for each token that was
+    /// given. The caller then has to wake a thread that sleeps at the same place, or else all that sleep in the channel.
+    /// The receiver comes back once it owes nothing more.
     pub fn pay_some(self) -> (bool, Result<Receiver<T>, Leaving<T>>)
         ensures paid { IfOk result.1 (λ r. NoMore (stand_with self.debtor) (stand_of r.end)) }
         ensures owes { IfErr result.1 (λ l. NoMore (stand_with self.debtor) (stand_with l.debtor)) }

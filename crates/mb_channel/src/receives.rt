@@ -3,6 +3,7 @@ ghost use Rattle.std.specs.Prelude.{◌≡◌, ◌⊎◌, ◌++◌, ◌∷◌, [
 ghost use Rattle.mb_channel.specs.Answers.{IfClosed};
 ghost use Rattle.mb_channel.specs.Ends.{IsBehind, IsEndOf, IsOver, IsSame, got_by, sent_by};
 ghost use Rattle.mb_channel.specs.Receives.{FoundNone, OfTried, SawEmpty};
+ghost use Rattle.mb_channel.specs.Wakes.{Tells, wakes_of};
 
 use crate::channel::{Channel, Refused};
 use crate::end::Receiver;
@@ -107,6 +108,7 @@ impl<T: Drop> Channel<T> {
         ensures none { OnErr result (got_by receiver.new.end ≡ got_by receiver.old.end) }
         ensures closed { IfErr result (λ why. IfClosed why (IsBehind receiver.new.end)) }
         ensures sent { sent_by receiver.new.end ≡ sent_by receiver.old.end }
+        ensures wakes { Tells 0 (wakes_of receiver.old.end) (wakes_of receiver.new.end) }
     {
         for _ in 0..TRIES {
             if let Some(tried) = receiver.end.try_receive() {

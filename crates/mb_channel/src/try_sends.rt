@@ -66,6 +66,13 @@ impl<T: Drop> Owing<T> {
     ghost use Rattle.mb_channel.specs.Standing.{NoMore, stand_of, stand_with};
     ghost use Rattle.mb_channel.specs.Wakes.{Tells, one_if, wakes_of, wakes_with};
 
+    /// The number of the segment where the tokens are given. Only who sleeps there can take them.
+    pub fn place(&self) -> usize
+        ensures { result ≡ (view_in self.now.debtor.chair).at }
+    {
+        self.debtor.at
+    }
+
     /// Gives the tokens that are owed, and wakes a thread for each.
     pub fn pay<R: Wait>(self, rt: &R) -> Sender<T>
         ensures { NoMore (stand_with self.debtor) (stand_of result.end) }
@@ -76,8 +83,9 @@ impl<T: Drop> Owing<T> {
         }
     }
 
-    /// Tries to give one token that is owed, and wakes nobody. If the answer has `true`, the caller has to wake one thread
-    /// that sleeps in the channel. The sender comes back once it owes nothing more.
+    /// Tries to give one token that is owed, and wakes nobody. The answer has `true` once for each token that was given.
+    /// The caller then has to wake a thread that sleeps at the same place, or else all that sleep in the channel. The
+    /// sender comes back once it owes nothing more.
     pub fn pay_some(self) -> (bool, Result<Sender<T>, Owing<T>>)
         ensures paid { IfOk result.1 (λ s. NoMore (stand_with self.debtor) (stand_of s.end)) }
         ensures owes { IfErr result.1 (λ o. NoMore (stand_with self.debtor) (stand_with o.debtor)) }

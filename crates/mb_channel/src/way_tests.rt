@@ -123,7 +123,12 @@ fn give_up_with_a_token<R: Wait>(
     };
     let (wakes, sender) = send(rt, channel, sender, 8);
     drop(sender);
+    let place = asleep.place();
     let mut leaving = asleep.give_up();
+    if leaving.place() != place {
+        drop(leaving.pay(rt));
+        return (wakes, 0);
+    }
     for times in 1..9 {
         match leaving.pay_some() {
             (_, Ok(receiver)) => {

@@ -7,11 +7,10 @@ pub use Rattle.mb_segment.specs.Slots.{HalfFits, HasHalf, Homes, IsTaken, Taken,
 pub use Rattle.mb_segment.specs.Passes.{Distinct, In, Match, if_hub, nothing_done, one_if_member, blank, blind, member, new_hub, no_duty, no_tokens, out, spent}
 pub use Rattle.mb_segment.specs.Heard.{AllHeed, Heard, Heeds}
 pub use Rattle.mb_segment.specs.Rule.{Fits, IsHub, IsMember, Keeps}
-pub use Rattle.mb_segment.specs.Moves.{IsCalm, bare, calm, done, drew, ended, enters, falls_asleep, gives_token, gives_up, goes_unseen}
-pub use Rattle.mb_segment.specs.Moves.{hands_on, has_closed, has_woken, issued, leaves, leaves_with_token, looked, or}
-pub use Rattle.mb_segment.specs.Moves.{owes_all, owes_wake, same, sees_cut, sees_full, sees_mark, sees_taken, told}
-pub use Rattle.mb_segment.specs.Moves.{Below, MaySend, MayTake, SawAllTaken, did_cut, found_empty, got_at, is_over, mark_in, marked_to}
-pub use Rattle.mb_segment.specs.Moves.{sees_empty, sent_at, takes_token, took, took_back, uncounted, wakes_up, with_duty}
+pub use Rattle.mb_segment.specs.Moves.{Below, IsCalm, MaySend, MayTake, SawAllTaken, bare, calm, did_cut, done, drew, ended, enters, falls_asleep}
+pub use Rattle.mb_segment.specs.Moves.{found_empty, gives_token, gives_up, goes_unseen, got_at, hands_on, has_closed, has_woken, is_over, issued, leaves}
+pub use Rattle.mb_segment.specs.Moves.{leaves_with_token, looked, mark_in, marked_to, or, owes_all, owes_wake, same, sees_cut, sees_empty, sees_full}
+pub use Rattle.mb_segment.specs.Moves.{sees_mark, sees_taken, sent_at, takes_token, told, took, took_back, uncounted, wakes_up, with_duty}
 pub use Rattle.mb_segment.specs.Steps.{Sat, always, asking, becomes, claiming, drawing, drawing_picked, ending, exchanging}
 pub use Rattle.mb_segment.specs.Steps.{if_none_waits, looking, seeing_cut, seeing_mark, seeing_taken}
 pub use Rattle.mb_segment.specs.Whole.{IsWhole, Stand}

@@ -1,6 +1,7 @@
 use Rattle.std.proofs.Common.{◌≡◌}
 use Rattle.mb_channel.specs.Ends.{IsSame, got_by, sent_by}
 use Rattle.mb_channel.specs.Receives.{IsLater}
+use Rattle.mb_channel.specs.Wakes.{Tells, wakes_of}
 use Rattle.mb_channel.proofs.channel.Channel.try_receive.Given as goal
 
 abbrev pub invariant-loop : goal.invariant-loop
@@ -9,3 +10,4 @@ invariant-loop g l =
     × IsLater l.initial.receiver.end l.receiver.end
     × (sent_by l.receiver.end ≡ sent_by l.initial.receiver.end)
     × (got_by l.receiver.end ≡ got_by l.initial.receiver.end)
+    × Tells 0 (wakes_of l.initial.receiver.end) (wakes_of l.receiver.end)
