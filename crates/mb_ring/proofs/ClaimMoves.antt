@@ -1,15 +1,18 @@
 -- The exchange that claims a position keeps the rule.
 use Rattle.mb_ring.proofs.Base.{Allows, List, Some, [], ap, append_assoc, arith, at_last, at_longer, either, exchanged, get_elem?, inl, inr}
 use Rattle.mb_ring.proofs.Base.{keeps, length, length-append, none, refl, set_else, slice_index, slice_set, some, step, subst, suc, sym, takes, ℕ, ⊎_elim}
-use Rattle.mb_ring.proofs.Base.{◌%◌, ◌*◌, ◌++◌, ◌+◌, ◌<◌, ◌==◌, ◌∙◌, ◌∷◌, ◌≡◌, ◌≢◌, ◌≤◌}
+use Rattle.mb_ring.proofs.Base.{◌%◌, ◌*◌, ◌++◌, ◌+◌, ◌-◌, ◌<◌, ◌==◌, ◌∙◌, ◌∷◌, ◌≡◌, ◌≢◌, ◌≤◌}
 use Rattle.mb_segment.proofs.Spots.{entries_append, entry_of, size_set, snoc_at, to_other, to_own}
 use Rattle.mb_segment.proofs.Halves.{match_kept, no_hub, no_reads, no_spent, no_writes}
 use Rattle.mb_ring.specs.Vocabulary.{Claim, Duty, Entry, Half, HalfFits, HasHalf, History, Homes, In, Keeps, Member, Nothing, Reads, Sat, Taken}
 use Rattle.mb_ring.specs.Vocabulary.{Undrawn, View, Waiting, Writes, all_entries, claiming, done, drawn, looked, with_duty, entries, got_by}
+use Rattle.mb_ring.specs.Vocabulary.{Room, Values, free, owes_wake}
 use Rattle.mb_ring.specs.Vocabulary.{sees_taken, spot, spots_by, taken, took, turn}
 use Rattle.mb_ring.proofs.Turns.{other_slot}
 use Rattle.mb_ring.proofs.Halves.{half_else, half_here, heard_claim, may_take}
-use Rattle.mb_ring.proofs.Kept.{Goes, Next, Same, St, at1, moved, resized, sees, steps}
+use Rattle.mb_ring.proofs.Sleep.{IsLook, Law, free_more}
+use Rattle.mb_ring.proofs.Kept.{Next, Same, St, moved}
+use Rattle.mb_ring.proofs.Loads.{Goes, at1, resized, sees, steps}
 
 -- pass i claims position `old`, the first that waits. It saw that it was marked
 module _ {T : Type 0} (s : St T) (k : Keeps s) (i : ℕ) (v w : View T) (at : get_elem? s.views i ≡ some v) (old : ℕ)
@@ -122,15 +125,26 @@ module _ {T : Type 0} (s : St T) (k : Keeps s) (i : ℕ) (v w : View T) (at : ge
   claim_got : got_by i claimed ≡ got_by i k.history ++ spot old b.value ∷ []
   claim_got = to_own i 0 b.value k.history.claims claim old (omega arith) refl refl
 
--- what a claim does to what its pass owes: at most one look less
-abbrev IsLook : (Duty → Duty) → Duty → Type 0
-IsLook f d = ((f d).fresh + (f d).asleep + (f d).leaving ≡ d.fresh + d.asleep + d.leaving)
-    × ((f d).asleep ≡ d.asleep)
-    × (d.wakes + d.looks + d.fresh + d.closing ≤ (f d).wakes + (f d).looks + (f d).fresh + (f d).closing + 1)
-    × ((f d).closing ≡ d.closing)
+-- one value less waits, and at most one look less is owed
+claim_values : (f : Duty → Duty) (d : Duty) (r r' z t a : ℕ) → IsLook f d → r ≡ r' + 1
+    → Law d (f d) r r' z z t t a
+claim_values f d r r' z t a look less_ L O C L' O' C' l o c le q h =
+    let e₁ = look.1 in let e₂ = look.2 in let e₃ = look.3 in (
+      ⊎_elim (λ y. inl (omega arith)) (λ y. inr (omega arith)) q,
+      ⊎_elim (λ y. inl (omega arith)) (λ y. inr (omega arith)) h,
+    )
+
+-- one place more is free at most, and a wake is owed for it
+claim_room : (d : Duty) (cut n r r' t a : ℕ) → r ≡ r' + 1
+    → Law d (owes_wake d) (free cut (n - r)) (free cut (n - r')) (free cut 1) (free cut 1) t t a
+claim_room d cut n r r' t a less_ L O C L' O' C' l o c le q h =
+    let more_ = free_more cut (n - r) (n - r') (omega arith) in (
+      ⊎_elim (λ y. inl (omega arith)) (λ y. inr (omega arith)) q,
+      ⊎_elim (λ y. inl (omega arith)) (λ y. inr (omega arith)) h,
+    )
 
 module _ {T : Type 0} where
-  first_of : (f : Duty → Duty) (slots i : ℕ) (me : Sat T) (old new : ℕ) → IsLook f me.0.duty → me.0.role ≡ Member
+  first_of : (f : Duty → Duty) (slots i : ℕ) (me : Sat T) (old new : ℕ) → IsLook f me.0.duty.values → me.0.role ≡ Member
       → me.0.half ≡ Nothing → me.0.sight.ripe ≡ Some old → new ≡ old + 1
       → (s : St T) (k₀ : Keeps s) → k₀.size ≡ slots → get_elem? s.views i ≡ some me.0
       → slice_index s.words 1 ≡ old
@@ -147,7 +161,7 @@ module _ {T : Type 0} where
   first_of f slots i me old new look role idle ripe is s k₀ many at e (b ∷ bs) first =
       let k = resized s k₀ slots many in
       let v = me.0 in
-      let w = with_duty f (took old b.value v) in
+      let w = with_duty Room owes_wake (with_duty Values f (took old b.value v)) in
       let fit = k.fits i v at in
       let mem = fit.member role in
       let r = (fit.sight.ripe old ripe).1 in
@@ -179,14 +193,17 @@ module _ {T : Type 0} where
         home.1,
         moved s k i v w x' at record {
           words = ap (λ l. slice_set l 1 new) k.words
-              ∙ (λ z. (sym sd z + 9223372036854775808 * k.cut) ∷ next z ∷
-              (k.tokens + 4294967296 * k.waiting) ∷ k.states);
-          narrow = k.narrow;
-          counted = let l = look.0 in omega arith;
-          laws = λ L O C L' O' C' l o c le' q h. let lk = look.2 in let lc = look.3 in let la = look.1 in (
-            ⊎_elim (λ y. inl (omega arith)) (λ y. inr (omega arith)) q,
-            ⊎_elim (λ y. inl (omega arith)) (λ y. inr (omega arith)) h,
-          );
+              ∙ (λ z. (sym sd z + 9223372036854775808 * k.cut) ∷ next z
+              ∷ (k.tokens Values + 4294967296 * k.waiting Values)
+              ∷ (k.tokens Room + 4294967296 * k.waiting Room) ∷ k.states);
+          narrow = λ q. (k.lists q).narrow;
+          counted = elim [ Values ↦ let l = look.0 in omega arith | Room ↦ refl ];
+          laws = elim [
+            | Values ↦ claim_values f v.duty.values (length k.history.rest) (length bs) (free k.cut 1)
+                (k.tokens Values) (k.waiting Values) look (omega arith)
+            | Room ↦ claim_room v.duty.room k.cut slots (length k.history.rest) (length bs) (k.tokens Room)
+                (k.waiting Room) (omega arith)
+          ];
           sized = (k.sized.0, lent_ ∙ k.sized.1);
           small = omega arith;
           within = omega arith;
@@ -238,8 +255,8 @@ module _ {T : Type 0} where
         ((λ _. (b.value, refl, refl, may)), λ ne. absurd (ne e)),
       )
 
-  claims_as : (f : Duty → Duty) (slots i : ℕ) (me : Sat T) (old new : ℕ) → IsLook f me.0.duty → me.0.role ≡ Member
-      → me.0.half ≡ Nothing → me.0.sight.ripe ≡ Some old → new ≡ old + 1
+  claims_as : (f : Duty → Duty) (slots i : ℕ) (me : Sat T) (old new : ℕ) → IsLook f me.0.duty.values
+      → me.0.role ≡ Member → me.0.half ≡ Nothing → me.0.sight.ripe ≡ Some old → new ≡ old + 1
       → Allows Keeps slots i me 1 (λ r. either (r == old) new r) (claiming f (step slots 1 old new none) me)
   claims_as f slots i me old new look role idle ripe is =
       steps slots i me 1 (λ r. either (r == old) new r) (claiming f (step slots 1 old new none) me)
@@ -269,7 +286,7 @@ module _ {T : Type 0} where
   claims slots i me old new role idle ripe is =
       claims_as looked slots i me old new (refl, refl, omega arith, refl) role idle ripe is
 
-  pub claims_listed : (slots i : ℕ) (me : Sat T) (old new : ℕ) → 0 < me.0.duty.fresh → me.0.role ≡ Member
+  pub claims_listed : (slots i : ℕ) (me : Sat T) (old new : ℕ) → 0 < me.0.duty.values.fresh → me.0.role ≡ Member
       → me.0.half ≡ Nothing → me.0.sight.ripe ≡ Some old → new ≡ old + 1
       → Allows Keeps slots i me 1 (λ r. either (r == old) new r) (claiming done (step slots 1 old new none) me)
   claims_listed slots i me old new fresh role idle ripe is =

@@ -1,11 +1,12 @@
 -- The exchange that cuts the ring keeps the rule.
 use Rattle.mb_ring.proofs.Base.{Allows, List, Option, Some, ap, arith, eq-eqb, either, inl, inr, keeps, ne_eqb, none, refl}
-use Rattle.mb_ring.proofs.Base.{slice_set, step, subst, sym, ℕ, ⊎_elim, ◌*◌, ◌+◌, ◌<◌, ◌==◌, ◌∙◌, ◌∷◌, ◌≡◌}
-use Rattle.mb_segment.proofs.Halves.{match_kept, no_hub, no_spent, uncut}
+use Rattle.mb_ring.proofs.Base.{length, slice_set, step, subst, sym, ℕ, ⊎_elim, ◌*◌, ◌+◌, ◌-◌, ◌<◌, ◌==◌, ◌∙◌, ◌∷◌, ◌≡◌}
+use Rattle.mb_segment.proofs.Halves.{free_shut, match_kept, no_hub, no_spent, uncut}
 use Rattle.mb_ring.specs.Vocabulary.{Half, HalfFits, History, In, Keeps, Member, Nothing, Reads, Sat, Writes, did_cut}
-use Rattle.mb_ring.specs.Vocabulary.{exchanging, owes_all, spot, taken, with_duty}
+use Rattle.mb_ring.specs.Vocabulary.{Room, Values, exchanging, owes_both, spot, taken}
 use Rattle.mb_ring.proofs.Halves.{half_stays}
-use Rattle.mb_ring.proofs.Kept.{Next, Same, at0, exchanges, moved, now}
+use Rattle.mb_ring.proofs.Kept.{Next, Same, moved, now}
+use Rattle.mb_ring.proofs.Loads.{at0, exchanges}
 
 module _ {T : Type 0} where
   half_cut : (h : History T) (c : Option ℕ) (n : ℕ) (states : List ℕ) (j : ℕ) (half : Half T)
@@ -18,12 +19,12 @@ module _ {T : Type 0} where
   pub cuts : (slots i : ℕ) (me : Sat T) (old new : ℕ) → old < 9223372036854775808 → me.0.role ≡ Member
       → new ≡ old + 9223372036854775808
       → Allows Keeps slots i me 0 (λ r. either (r == old) new r)
-      (exchanging (λ v. with_duty owes_all (did_cut v)) (step slots 0 old new none) me)
+      (exchanging (λ v. owes_both (did_cut v)) (step slots 0 old new none) me)
   cuts slots i me old new open_ role is =
-      exchanges 0 (exchanging (λ v. with_duty owes_all (did_cut v)) (step slots 0 old new none) me) slots i me old new
+      exchanges 0 (exchanging (λ v. owes_both (did_cut v)) (step slots 0 old new none) me) slots i me old new
       (λ s k many at e.
       let v = me.0 in
-      let w = with_duty owes_all (did_cut v) in
+      let w = owes_both (did_cut v) in
       let h = k.history in
       let fit = k.fits i v at in
       let mem = fit.member role in
@@ -38,13 +39,17 @@ module _ {T : Type 0} where
         tt,
         moved s k i v w x' at record {
           words = ap (λ l. slice_set l 0 new) k.words ∙ ap
-              (λ r. r ∷ taken h ∷ (k.tokens + 4294967296 * k.waiting) ∷ k.states) (omega arith);
-          narrow = k.narrow;
-          counted = omega arith;
-          laws = λ L O C L' O' C' l o c le q h'. (
-            ⊎_elim (λ y. inl (omega arith)) (λ y. inr (omega arith)) q,
-            inr (omega arith),
-          );
+              (λ r. r ∷ taken h ∷ (k.tokens Values + 4294967296 * k.waiting Values)
+              ∷ (k.tokens Room + 4294967296 * k.waiting Room) ∷ k.states) (omega arith);
+          narrow = λ q. (k.lists q).narrow;
+          counted = elim [ Values ↦ refl | Room ↦ refl ];
+          laws = elim [
+            | Values ↦ λ L O C L' O' C' l o c le q h'.
+                (⊎_elim (λ y. inl (omega arith)) (λ y. inr (omega arith)) q, inr (omega arith))
+            | Room ↦ λ L O C L' O' C' l o c le q h'.
+                let none_ = free_shut (k.cut + 1) (k.size - length h.rest) (omega arith) in
+                (inr (omega arith), inr (omega arith))
+          ];
           sized = (k.sized.0, k.sized.1);
           small = k.small;
           within = k.within;

@@ -1,15 +1,18 @@
 -- The exchange that draws a position keeps the rule.
 use Rattle.mb_ring.proofs.Base.{Allows, List, None, Option, Some, [], ap, append_assoc, arith, at_last, at_longer, carried_after, dec_lt, dite}
 use Rattle.mb_ring.proofs.Base.{either, get_elem?, inl, inr, length, length-append, none, refl, set_else, slice_index, slice_set, some}
-use Rattle.mb_ring.proofs.Base.{step, subst, sym, takes, ℕ, ⊎_elim, ◌%◌, ◌*◌, ◌++◌, ◌+◌, ◌<◌, ◌==◌, ◌∙◌, ◌∷◌, ◌≡◌, ◌≢◌, ◌≤◌, ◌⊎◌}
+use Rattle.mb_ring.proofs.Base.{step, suc, zero, subst, sym, takes, ℕ, ⊎_elim, ◌%◌, ◌*◌, ◌++◌, ◌+◌, ◌-◌, ◌<◌, ◌==◌, ◌∙◌, ◌∷◌, ◌≡◌, ◌≢◌, ◌≤◌, ◌⊎◌}
 use Rattle.mb_segment.proofs.Spots.{all_length, at_below, below_length, by_other, by_own, same_some, size_set, snoc_at}
 use Rattle.mb_segment.proofs.Halves.{match_kept, no_hub, no_reads, no_spent, no_writes}
 use Rattle.mb_ring.specs.Vocabulary.{Entry, Half, HalfFits, HasHalf, History, Homes, In, Keeps, Member, Nothing, Reads, Sat, Taken}
-use Rattle.mb_ring.specs.Vocabulary.{Undrawn, View, Waiting, Writes, all_entries, drawing, drawing_picked, drawn, drew}
+use Rattle.mb_ring.specs.Vocabulary.{Undrawn, View, Waiting, Writes, all_entries, done, drawing, drawing_picked, drawn, drew}
+use Rattle.mb_ring.specs.Vocabulary.{Duty, Room, Values, free, looked}
 use Rattle.mb_ring.specs.Vocabulary.{entries, owes_wake, sent_by, spot, spots_by, taken, turn, with_duty}
 use Rattle.mb_ring.proofs.Turns.{lap_on, one_slot, other_slot}
 use Rattle.mb_ring.proofs.Halves.{half_else, half_here, heard_draw, may_send}
-use Rattle.mb_ring.proofs.Kept.{Next, Same, St, at0, exchanges, moved, resized}
+use Rattle.mb_ring.proofs.Sleep.{IsLook, Law}
+use Rattle.mb_ring.proofs.Kept.{Next, Same, St, moved}
+use Rattle.mb_ring.proofs.Loads.{at0, exchanges, resized}
 
 -- pass i draws position `old` for the value x. It saw that its slot was free
 module _ {T : Type 0} (s : St T) (k : Keeps s) (i : ℕ) (v : View T) (at : get_elem? s.views i ≡ some v) (x : T)
@@ -34,8 +37,8 @@ module _ {T : Type 0} (s : St T) (k : Keeps s) (i : ℕ) (v : View T) (at : get_
   more = let m : length (k.history.rest ++ entry ∷ []) ≡ length k.history.rest + 1
       = length-append k.history.rest (entry ∷ []) in omega arith
 
-  free : (turn k.size k.states old ≡ 2 * old) × (get_elem? s.homes (old % k.size) ≡ some (some None))
-  free = let some_ = k.sized.2 in
+  vacant : (turn k.size k.states old ≡ 2 * old) × (get_elem? s.homes (old % k.size) ≡ some (some None))
+  vacant = let some_ = k.sized.2 in
       ⊎_elim (λ z. z) (λ z. let l = z.1 in absurd (omega arith)) (k.undrawn old (omega arith) (omega arith))
 
   -- fewer values wait than there are slots, since else the first of them has the slot
@@ -54,7 +57,7 @@ module _ {T : Type 0} (s : St T) (k : Keeps s) (i : ℕ) (v : View T) (at : get_
 
   -- the slot of a position with another turn
   other : (j : ℕ) → turn k.size k.states j ≢ 2 * old → j % k.size ≢ old % k.size
-  other j ne = let f = free.0 in other_slot k.size k.states j old (λ q. ne (q ∙ f))
+  other j ne = let f = vacant.0 in other_slot k.size k.states j old (λ q. ne (q ∙ f))
 
   draw_undrawn : Undrawn longer k.size k.states lent
   draw_undrawn j le lt = go (dec_lt j (drawn k.history + k.size))
@@ -69,7 +72,7 @@ module _ {T : Type 0} (s : St T) (k : Keeps s) (i : ℕ) (v : View T) (at : get_
       go (no out_) = let m = more in
           let far : j ≡ old + k.size = omega arith in
           let some_ = k.sized.2 in
-          let f = free.0 in
+          let f = vacant.0 in
           let one : turn k.size k.states j ≡ turn k.size k.states old
           = ap (turn k.size k.states) far ∙ one_slot k.size k.states (old + k.size) old (lap_on k.size old) in
           inr (omega arith, omega arith)
@@ -91,7 +94,7 @@ module _ {T : Type 0} (s : St T) (k : Keeps s) (i : ℕ) (v : View T) (at : get_
       (λ (t : (j ≡ length (all_entries k.history)) × (entry ≡ e)).
       let q : j ≡ old = t.0 ∙ size in
       inl (
-        subst (λ (m : ℕ). turn k.size k.states m ≡ 2 * m) (sym q) free.0,
+        subst (λ (m : ℕ). turn k.size k.states m ≡ 2 * m) (sym q) vacant.0,
         subst (λ (y : ℕ × Entry T). HasHalf (slice_set s.views i w) y.1.by (Writes (spot y.0 y.1.value)))
             (λ z. (sym q z, t.1 z))
             (half_here s.views i v w at (Writes (spot old x)) w_half),
@@ -123,7 +126,7 @@ module _ {T : Type 0} (s : St T) (k : Keeps s) (i : ℕ) (v : View T) (at : get_
     omega arith,
     subst (λ (l : List (Entry T)). get_elem? l old ≡ some entry) (sym long)
         (at_last (all_entries k.history) entry old size),
-    free.0,
+    vacant.0,
   )
 
   draw_same : Same k.history longer i
@@ -134,16 +137,34 @@ module _ {T : Type 0} (s : St T) (k : Keeps s) (i : ℕ) (v : View T) (at : get_
   draw_sent = ap (spots_by i 0) long ∙ by_own i 0 x (all_entries k.history) entry old
       (let sz = size in omega arith) refl refl
 
+-- one value more waits, and a wake is owed for it
+draw_values : (d : Duty) (r r' z t a : ℕ) → r' ≡ r + 1 → Law d (owes_wake d) r r' z z t t a
+draw_values d r r' z t a more L O C L' O' C' l o c le q h = (
+  ⊎_elim (λ y. inl (omega arith)) (λ y. inr (omega arith)) q,
+  ⊎_elim (λ y. inl (omega arith)) (λ y. inr (omega arith)) h,
+)
+
+-- one place less is free, and at most one look less is owed
+draw_room : (f : Duty → Duty) (d : Duty) (cut n r r' t a : ℕ) → IsLook f d → cut ≡ 0 → r' ≡ r + 1
+    → Law d (f d) (free cut (n - r)) (free cut (n - r')) (free cut 1) (free cut 1) t t a
+draw_room f d zero n r r' t a look open_ more L O C L' O' C' l o c le q h =
+    let e₁ = look.1 in let e₂ = look.2 in let e₃ = look.3 in (
+      ⊎_elim (λ y. inl (omega arith)) (λ y. inr (omega arith)) q,
+      ⊎_elim (λ y. inl (omega arith)) (λ y. inr (omega arith)) h,
+    )
+draw_room f d (suc m) n r r' t a look open_ more = absurd (omega arith)
+
 module _ {T : Type 0} where
-  draws_one : (x : T) (slots i : ℕ) (me : Sat T) (old new : ℕ) → me.0.role ≡ Member
+  draws_one : (f : Duty → Duty) (x : T) (slots i : ℕ) (me : Sat T) (old new : ℕ) → IsLook f me.0.duty.room
+      → me.0.role ≡ Member
       → me.0.half ≡ Nothing → me.0.sight.room ≡ Some old → old < 4611686018427387904 → new ≡ old + 1
-      → Allows Keeps slots i me 0 (λ r. either (r == old) new r) (drawing x (step slots 0 old new none) me)
-  draws_one x slots i me old new role idle seen room is =
-      exchanges 0 (drawing x (step slots 0 old new none) me) slots i me old new
+      → Allows Keeps slots i me 0 (λ r. either (r == old) new r) (drawing f x (step slots 0 old new none) me)
+  draws_one f x slots i me old new look role idle seen room is =
+      exchanges 0 (drawing f x (step slots 0 old new none) me) slots i me old new
       (λ s k₀ many at e.
       let k = resized s k₀ slots many in
       let v = me.0 in
-      let w = with_duty owes_wake (drew old x v) in
+      let w = with_duty Room f (with_duty Values owes_wake (drew old x v)) in
       let h = k.history in
       let fit = k.fits i v at in
       let mem = fit.member role in
@@ -169,16 +190,19 @@ module _ {T : Type 0} where
       } in (
         w,
         takes (old % slots) None,
-        (free s k i v at x old now_ free_ idle w refl).1,
+        (vacant s k i v at x old now_ free_ idle w refl).1,
         moved s k i v w x' at record {
           words = ap (λ l. slice_set l 0 new) k.words ∙ ap
-              (λ r. r ∷ taken h ∷ (k.tokens + 4294967296 * k.waiting) ∷ k.states) next;
-          narrow = k.narrow;
-          counted = omega arith;
-          laws = λ L O C L' O' C' l o c le q h'. (
-            ⊎_elim (λ y. inl (omega arith)) (λ y. inr (omega arith)) q,
-            ⊎_elim (λ y. inl (omega arith)) (λ y. inr (omega arith)) h',
-          );
+              (λ r. r ∷ taken h ∷ (k.tokens Values + 4294967296 * k.waiting Values)
+              ∷ (k.tokens Room + 4294967296 * k.waiting Room) ∷ k.states) next;
+          narrow = λ q. (k.lists q).narrow;
+          counted = elim [ Values ↦ omega arith | Room ↦ let e = look.0 in omega arith ];
+          laws = elim [
+            | Values ↦ draw_values v.duty.values (length h.rest) (length g.rest) (free k.cut 1) (k.tokens Values)
+                (k.waiting Values) (omega arith)
+            | Room ↦ draw_room f v.duty.room k.cut slots (length h.rest) (length g.rest) (k.tokens Room)
+                (k.waiting Room) look open_ (omega arith)
+          ];
           sized = (k.sized.0, lent_ ∙ k.sized.1);
           small = omega arith;
           within = omega arith;
@@ -231,17 +255,32 @@ module _ {T : Type 0} where
       (λ r ne. ((λ e. absurd (ne e)), λ _. (refl, refl)))
 
   -- the same, told of the value that the proof picked
-  pub draws : (x : T) (picked : Option T) → picked ≡ Some x → (slots i : ℕ) (me : Sat T) (old new : ℕ)
+  draws_as : (f : Duty → Duty) (x : T) (picked : Option T) → picked ≡ Some x → (slots i : ℕ) (me : Sat T)
+      (old new : ℕ) → IsLook f me.0.duty.room
       → me.0.role ≡ Member → me.0.half ≡ Nothing → me.0.sight.room ≡ Some old → old < 4611686018427387904
       → new ≡ old + 1 → Allows Keeps slots i me 0 (λ r. either (r == old) new r)
-      (drawing_picked picked (step slots 0 old new none) me)
-  draws x picked pick slots i me old new role idle seen room is s k homes at small =
-      let a = draws_one x slots i me old new role idle seen room is s k homes at small in (
+      (drawing_picked f picked (step slots 0 old new none) me)
+  draws_as f x picked pick slots i me old new look role idle seen room is s k homes at small =
+      let a = draws_one f x slots i me old new look role idle seen room is s k homes at small in (
         a.0,
         a.1,
         a.2,
         a.3,
-        λ y q. subst (λ (z : T). drawing z (step slots 0 old new none) me (slice_index s.words 0)
+        λ y q. subst (λ (z : T). drawing f z (step slots 0 old new none) me (slice_index s.words 0)
             (a.0, carried_after me.1 a.1))
             (same_some x y (sym pick ∙ q)) a.4,
       )
+
+  pub draws : (x : T) (picked : Option T) → picked ≡ Some x → (slots i : ℕ) (me : Sat T) (old new : ℕ)
+      → me.0.role ≡ Member → me.0.half ≡ Nothing → me.0.sight.room ≡ Some old → old < 4611686018427387904
+      → new ≡ old + 1 → Allows Keeps slots i me 0 (λ r. either (r == old) new r)
+      (drawing_picked looked picked (step slots 0 old new none) me)
+  draws x picked pick slots i me old new role idle seen room is =
+      draws_as looked x picked pick slots i me old new (refl, refl, omega arith, refl) role idle seen room is
+
+  pub draws_listed : (x : T) (picked : Option T) → picked ≡ Some x → (slots i : ℕ) (me : Sat T) (old new : ℕ)
+      → 0 < me.0.duty.room.fresh → me.0.role ≡ Member → me.0.half ≡ Nothing → me.0.sight.room ≡ Some old
+      → old < 4611686018427387904 → new ≡ old + 1 → Allows Keeps slots i me 0 (λ r. either (r == old) new r)
+      (drawing_picked done picked (step slots 0 old new none) me)
+  draws_listed x picked pick slots i me old new fresh role idle seen room is =
+      draws_as done x picked pick slots i me old new (omega arith, refl, omega arith, refl) role idle seen room is

@@ -4,18 +4,15 @@ use Rattle.mb_ring.proofs.Base.{refl, slice_index, some, step, subst, sym, ℕ, 
 use Rattle.mb_segment.proofs.Spots.{all_length, below_by, nothing_left}
 use Rattle.mb_ring.specs.Vocabulary.{Below, Fits, Issuer, Keeps, Member, Role, SawAllTaken, Sat, Spent, Spot, View}
 use Rattle.mb_ring.specs.Vocabulary.{all_entries, drawn, looking, sees_drawn, sees_empty, told, Duty, done, falls_asleep}
-use Rattle.mb_ring.specs.Vocabulary.{free, listed, looked, no_duty, with_duty}
+use Rattle.mb_ring.specs.Vocabulary.{free, in_list, looked, on, Values, with_duty}
 use Rattle.mb_ring.proofs.Laps.{marked_drawn}
-use Rattle.mb_ring.proofs.Kept.{Goes, St, StaysIdle, at0, loaded, refit, sees, settled, sighted, steps}
-
--- who owes something, or is in the list, is a pass
-pub owing : {T : Type 0} (x : Duty → ℕ) (v : View T) (d : Duty) → x no_duty ≡ 0 → 0 < x v.duty → StaysIdle v d
-owing x v d none_ some_ no_ e = let q : x v.duty ≡ x no_duty = ap x e in absurd (omega arith)
+use Rattle.mb_ring.proofs.Kept.{St, one_listed, one_owes, settled}
+use Rattle.mb_ring.proofs.Loads.{Goes, StaysIdle, at0, loaded, owing, pays, refit, sees, steps}
 
 -- the pass owes other things, and is in the list as often as before
 abbrev StaysListed : {T : Type 0} → (Duty → Duty) → View T → Type 0
-StaysListed f v = (listed (with_duty f v) ≡ listed v) × ((f v.duty).closing ≡ v.duty.closing)
-    × StaysIdle v (f v.duty)
+StaysListed f v = (in_list (f v.duty.values) ≡ in_list v.duty.values)
+    × ((f v.duty.values).closing ≡ v.duty.values.closing) × StaysIdle v (on Values f v.duty)
 
 module _ {T : Type 0} where
   -- nothing waits where no more are drawn than were claimed before
@@ -43,7 +40,8 @@ module _ {T : Type 0} where
           (below_by i 0 r (all_entries k.history) (omega arith))
 
   looks_at : (f g : Duty → Duty) (slots i : ℕ) (me : Sat T) → StaysListed f me.0 → StaysListed g me.0
-      → (g me.0.duty).asleep ≡ me.0.duty.asleep → (s : St T) (k : Keeps s) → get_elem? s.views i ≡ some me.0
+      → (g me.0.duty.values).asleep ≡ me.0.duty.values.asleep → (s : St T) (k : Keeps s)
+      → get_elem? s.views i ≡ some me.0
       → Dec (slice_index s.words 0 % 9223372036854775808 ≤ me.0.sight.low)
       → Dec (slice_index s.words 0 < 9223372036854775808)
       → Goes s 0 i me (looking f g (step slots 0 0 0 none) me) (slice_index s.words 0)
@@ -73,23 +71,18 @@ module _ {T : Type 0} where
       )
   looks_at f g slots i me lf lg sleeps s k at (yes none_) (yes open_) =
       let r = slice_index s.words 0 in
-      let w = sees_empty r (with_duty f me.0) in
+      let w = sees_empty r (with_duty Values f me.0) in
       let now_ = at0 s k in
       let empty = nothing_waits s k i me.0 at none_ in
       let zero_ : length k.history.rest ≡ 0 = ap length empty in
       let not_cut : k.cut ≡ 0 = omega arith in
       let free_is : free k.cut 1 ≡ 1 = ap (λ (n : ℕ). free n 1) not_cut in
-      let fit = k.fits i me.0 at in
-      let y = fit.sight in
-      let l = lf.0 in (
+      let y = (k.fits i me.0 at).sight in (
         w,
         keeps,
         tt,
-        loaded s 0 i me.1 w (settled s k i me.0 w at l refl refl refl
-            (sighted k.history k.size k.states k.cut k.hub k.roll i (with_duty f me.0)
-            record me.0.sight { empty = r; found = me.0.sight.found + 1 }
-            (refit k.history k.size k.states k.cut k.hub k.roll i me.0 (f me.0.duty) lf.2 fit)
-            record {
+        pays s k 0 i me.0 at me.1 Values f record me.0.sight { empty = r; found = me.0.sight.found + 1 } lf.2 lf.0
+            (λ L O C L' O' C' l' o c le q h. (inr (omega arith), inr (omega arith))) record {
               low = y.low;
               top = y.top;
               room = y.room;
@@ -97,8 +90,7 @@ module _ {T : Type 0} where
               cut_ = y.cut_;
               empty = omega arith;
               full = y.full;
-            } (omega arith))
-            (λ L O C L' O' C' l' o c le q h. (inr (omega arith), inr (omega arith)))),
+            } (omega arith),
         (
           (λ lt. absurd (omega arith)),
           (λ _ _. (
@@ -111,17 +103,17 @@ module _ {T : Type 0} where
         ),
       )
   looks_at f g slots i me lf lg sleeps s k at (yes none_) (no cut) =
-      let w = told (with_duty g me.0) in
+      let w = told (with_duty Values g me.0) in
       let now_ = at0 s k in
       let small = k.small in
       let empty = nothing_waits s k i me.0 at none_ in
       let zero_ : length k.history.rest ≡ 0 = ap length empty in
-      let fit = refit k.history k.size k.states k.cut k.hub k.roll i me.0 (g me.0.duty) lg.2 (k.fits i me.0 at) in
-      let l = lg.0 in (
+      let fit = refit k.history k.size k.states k.cut k.hub k.roll i me.0 (on Values g me.0.duty) lg.2
+      (k.fits i me.0 at) in (
         w,
         keeps,
         tt,
-        loaded s 0 i me.1 w (settled s k i me.0 w at l refl refl refl record {
+        loaded s 0 i me.1 w (settled s k i me.0 w at (one_listed me.0 Values g lg.0) refl refl refl record {
           member = λ r. let m = fit.member r in record
               { sent = m.sent; got = m.got; cut = m.cut; no_hub = m.no_hub; not_back = m.not_back };
           hub_ = λ r. let m = fit.hub_ r in record
@@ -134,8 +126,8 @@ module _ {T : Type 0} where
           over = λ _. (omega arith, empty);
           last = λ _ _. omega arith;
         }
-            (λ L O C L' O' C' l' o c le q h. let e = lg.1 in
-            (inr (omega arith), ⊎_elim (λ x. inl (omega arith)) (λ x. inr (omega arith)) h))),
+            (one_owes s k me.0 Values g (λ L O C L' O' C' l' o c le q h. let e = lg.1 in
+            (inr (omega arith), ⊎_elim (λ x. inl (omega arith)) (λ x. inr (omega arith)) h)))),
         (
           (λ lt. absurd (omega arith)),
           (λ _ lt. absurd (cut lt)),
@@ -145,7 +137,7 @@ module _ {T : Type 0} where
       )
 
   looks_as : (f g : Duty → Duty) (slots i : ℕ) (me : Sat T) → StaysListed f me.0 → StaysListed g me.0
-      → (g me.0.duty).asleep ≡ me.0.duty.asleep
+      → (g me.0.duty.values).asleep ≡ me.0.duty.values.asleep
       → Allows Keeps slots i me 0 (λ r. r) (looking f g (step slots 0 0 0 none) me)
   looks_as f g slots i me lf lg sleeps = steps slots i me 0 (λ r. r) (looking f g (step slots 0 0 0 none) me)
       (λ s k many at. looks_at f g slots i me lf lg sleeps s k at
@@ -154,11 +146,11 @@ module _ {T : Type 0} where
 
   pub looks : (slots i : ℕ) (me : Sat T) → Allows Keeps slots i me 0 (λ r. r)
       (looking looked looked (step slots 0 0 0 none) me)
-  looks slots i me = looks_as looked looked slots i me (refl, refl, λ _ e. ap looked e)
-      (refl, refl, λ _ e. ap looked e) refl
+  looks slots i me = looks_as looked looked slots i me (refl, refl, λ _ e. ap (on Values looked) e)
+      (refl, refl, λ _ e. ap (on Values looked) e) refl
 
-  pub looks_listed : (slots i : ℕ) (me : Sat T) → 0 < me.0.duty.fresh
+  pub looks_listed : (slots i : ℕ) (me : Sat T) → 0 < me.0.duty.values.fresh
       → Allows Keeps slots i me 0 (λ r. r) (looking falls_asleep done (step slots 0 0 0 none) me)
   looks_listed slots i me fresh = looks_as falls_asleep done slots i me
-      (omega arith, refl, owing (λ d. d.fresh) me.0 (falls_asleep me.0.duty) refl fresh)
-      (omega arith, refl, owing (λ d. d.fresh) me.0 (done me.0.duty) refl fresh) refl
+      (omega arith, refl, owing Values (λ d. d.fresh) me.0 (on Values falls_asleep me.0.duty) refl fresh)
+      (omega arith, refl, owing Values (λ d. d.fresh) me.0 (on Values done me.0.duty) refl fresh) refl

@@ -7,7 +7,8 @@ use Rattle.mb_ring.specs.Vocabulary.{Claim, Entry, Half, HasHalf, In, IsWhole, I
 use Rattle.mb_ring.specs.Vocabulary.{Writes, drawn, entries, member, one_if_member, spot, taken, values}
 use Rattle.mb_ring.proofs.Totals.{below_total}
 use Rattle.mb_ring.proofs.Turns.{next_lap}
-use Rattle.mb_ring.proofs.Kept.{St, at0, at1}
+use Rattle.mb_ring.proofs.Kept.{St}
+use Rattle.mb_ring.proofs.Loads.{at0, at1}
 use Rattle.mb_ring.proofs.PassMoves.{out_of_hub}
 use Rattle.mb_ring.proofs.Places.{closer, drawer, taker}
 use Rattle.std.specs.Prelude.{slice_index_or}

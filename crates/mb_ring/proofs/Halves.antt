@@ -4,8 +4,13 @@ use Rattle.mb_ring.proofs.Base.{sym, ℕ, ℕ_discrete, ◌++◌, ◌+◌, ◌<�
 use Rattle.mb_segment.proofs.Spots.{below_length}
 use Rattle.mb_segment.proofs.Halves.{no_hub, no_spent, not_true, uncut}
 use Rattle.mb_ring.specs.Vocabulary.{Duty, Fits, Half, HasHalf, Heard, Heeds, History, MaySend, MayTake, Member, Spot, View, cuts_by}
-use Rattle.mb_ring.specs.Vocabulary.{Issuer, Role, Spent, listed, no_duty, owed}
+use Rattle.mb_ring.specs.Vocabulary.{Issuer, Role, Room, Spent, Values, Want, closing, debts, in_list, listed, no_duties, owed, part}
+use Rattle.mb_segment.specs.Passes.{no_duty}
 use Rattle.mb_ring.specs.Vocabulary.{drawn, drew, spot, taken, took}
+
+pub no_part : (q : Want) → part q no_duties ≡ no_duty
+no_part Values = refl
+no_part Room = refl
 
 module _ {T : Type 0} where
   -- what another has begun stays, where the step's own pass had begun something else
@@ -58,13 +63,16 @@ module _ {T : Type 0} where
       (λ on. let y : length h.rest ≡ 0 = ap length (f.over on).1 in absurd (omega arith))
 
   -- who owes something, or is in the list, is a pass that is out
-  pub is_out : (v : View T) → ((v.role ≡ Member → ⊥) → v.duty ≡ no_duty) → 0 < owed v + listed v → v.role ≡ Member
-  is_out v debt some_ = go v.role refl
+  pub is_out : (q : Want) (v : View T) → ((v.role ≡ Member → ⊥) → v.duty ≡ no_duties)
+      → 0 < owed q v + listed q v + closing q v → v.role ≡ Member
+  is_out q v debt some_ = go v.role refl
     where
       nothing : (v.role ≡ Member → ⊥) → ⊥
       nothing no_ =
-          let a : owed v ≡ 0 = ap (λ (d : Duty). d.wakes + d.looks + d.fresh + d.closing) (debt no_) in
-          let b : listed v ≡ 0 = ap (λ (d : Duty). d.fresh + d.asleep + d.leaving) (debt no_) in omega arith
+          let e : part q v.duty ≡ no_duty = ap (part q) (debt no_) ∙ no_part q in
+          let a : owed q v ≡ 0 = ap debts e in
+          let b : listed q v ≡ 0 = ap in_list e in
+          let c : closing q v ≡ 0 = ap (λ (d : Duty). d.closing) e in omega arith
 
       go : (r : Role) → v.role ≡ r → v.role ≡ Member
       go Issuer e = absurd (nothing (λ m. no_hub v.role m e))

@@ -1,15 +1,16 @@
 -- What a step has to show, so that the rule holds after it.
-use Rattle.mb_ring.proofs.Base.{Act, Allows, List, Option, State, Valid, [], ap, arith, at_set, carried_after}
-use Rattle.mb_ring.proofs.Base.{either, exchanged, false, get_elem?, inl, inr, keeps, length, refl, set_again, slice_index, slice_set}
-use Rattle.mb_ring.proofs.Base.{some, stepped, subst, sym, ℕ, ⊎_elim, ◌*◌, ◌+◌, ◌<◌, ◌==◌, ◌∙◌, ◌∷◌, ◌≡◌, ◌≢◌, ◌≤◌}
+use Rattle.mb_ring.proofs.Base.{List, Option, State, [], ap, arith, at_set, false, get_elem?, inl, inr, length}
+use Rattle.mb_ring.proofs.Base.{refl, slice_set, some, subst, sym, ℕ, ⊎_elim, ◌*◌, ◌+◌, ◌<◌, ◌∙◌, ◌∷◌, ◌≡◌, ◌≢◌}
+use Rattle.mb_ring.proofs.Base.{◌≤◌}
+use Rattle.mb_ring.specs.Vocabulary.{Account, Duties, Duty, Fits, Half, HalfFits, History, Homes, IsAwaited}
+use Rattle.mb_ring.specs.Vocabulary.{Keeps, Match, Reads, Room, Sight, SightFits, Taken, Undrawn, Values, View}
+use Rattle.mb_ring.specs.Vocabulary.{Waiting, Want, Writes, closing, cuts_by, drawn, free, got_by, has_cut}
+use Rattle.mb_ring.specs.Vocabulary.{if_hub, in_list, listed, member, one_if_member, out, owed, part, ready}
+use Rattle.mb_ring.specs.Vocabulary.{sent_by, sleeping, spot, taken, total, turn, with_duty}
 use Rattle.mb_segment.proofs.Spots.{below_length, size_set}
-use Rattle.mb_ring.specs.Vocabulary.{Account, Duty, Fits, Half, HalfFits, History, Homes, Keeps, Match, Reads, Sat, Sight, SightFits, Taken}
-use Rattle.mb_ring.specs.Vocabulary.{Undrawn, View, Waiting, Writes, cuts_by, drawn, got_by, has_cut, if_hub, member}
-use Rattle.mb_ring.specs.Vocabulary.{one_if_member, out, sent_by, spot, taken, turn}
-use Rattle.mb_ring.specs.Vocabulary.{Member, Quiet, Shut, closing, free, listed, no_duty, owed, sleeping, total}
 use Rattle.mb_ring.proofs.Totals.{asleep_listed, total_set}
 use Rattle.mb_ring.proofs.Halves.{half_stays}
-use lib.Seq.{set-get_or}
+use Rattle.mb_ring.proofs.Sleep.{Law, law_rest}
 
 abbrev pub St : Type 0 → Type 0
 St T = State (Option T) (View T)
@@ -20,8 +21,8 @@ pub record Next (T : Type 0) : Type 0 where
   pub words : List ℕ
   pub states : List ℕ
   pub homes : Homes T
-  pub tokens : ℕ
-  pub waiting : ℕ
+  pub tokens : Want → ℕ
+  pub waiting : Want → ℕ
   pub cut : ℕ
 
 module _ {T : Type 0} where
@@ -43,24 +44,19 @@ module _ {T : Type 0} where
   abbrev pub after : St T → Next T → ℕ → View T → St T
   after s x i w = record { words = x.words; homes = x.homes; views = slice_set s.views i w }
 
-  -- what the step does to the sums of all views keeps the laws of sleep. L sleep, O is owed, C by closers
   abbrev pub Laws : (s : St T) → Keeps s → View T → View T → Next T → Type 0
-  Laws s k v w x =
-      (L O C L' O' C' : ℕ) → L' + v.duty.asleep ≡ L + w.duty.asleep → O' + owed v ≡ O + owed w
-      → C' + v.duty.closing ≡ C + w.duty.closing → L' ≤ x.tokens + x.waiting
-      → Quiet (length k.history.rest) k.tokens L O → Shut k.tokens L (free k.cut 1) C
-      → Quiet (length x.history.rest) x.tokens L' O' × Shut x.tokens L' (free x.cut 1) C'
+  Laws s k v w x = (q : Want) → Law (part q v.duty) (part q w.duty) (ready q k.history k.size k.cut)
+      (ready q x.history k.size x.cut) (free k.cut 1) (free x.cut 1) (k.tokens q) (x.tokens q) (x.waiting q)
 
-  -- nothing is owed or paid
-  abbrev pub AtRest : (s : St T) → Keeps s → View T → View T → Next T → Type 0
-  AtRest s k v w x = (w.duty ≡ v.duty) × (x.tokens ≡ k.tokens) × (x.waiting ≡ k.waiting)
-      × (length x.history.rest ≤ length k.history.rest) × (x.cut ≡ k.cut)
+  -- the list has as many more as its word says
+  abbrev pub Counts : (s : St T) → Keeps s → View T → View T → Next T → Type 0
+  Counts s k v w x = (q : Want) → listed q w + (k.tokens q + k.waiting q) ≡ listed q v + (x.tokens q + x.waiting q)
 
   pub record Keeping (s : St T) (k : Keeps s) (i : ℕ) (v w : View T) (x : Next T) : Type 0 where
     pub words : x.words ≡ (drawn x.history + 9223372036854775808 * x.cut) ∷ taken x.history
-        ∷ (x.tokens + 4294967296 * x.waiting) ∷ x.states
-    pub narrow : x.tokens < 4294967296
-    pub counted : listed w + (k.tokens + k.waiting) ≡ listed v + (x.tokens + x.waiting)
+        ∷ (x.tokens Values + 4294967296 * x.waiting Values) ∷ (x.tokens Room + 4294967296 * x.waiting Room) ∷ x.states
+    pub narrow : (q : Want) → x.tokens q < 4294967296
+    pub counted : Counts s k v w x
     pub laws : Laws s k v w x
     pub sized : (length x.states ≡ k.size) × (length x.homes ≡ k.size)
     pub small : drawn x.history ≤ 4611686018427387904
@@ -121,22 +117,30 @@ module _ {T : Type 0} where
     last = λ r e. let l = f.last r e in let d = o.frozen (f.over e).0 in omega arith;
   }
 
+  awaited : (s : St T) (k : Keeps s) (i : ℕ) (v w : View T) (x : Next T) → get_elem? s.views i ≡ some v
+      → Keeping s k i v w x → (q : Want) → IsAwaited (slice_set s.views i w) q (ready q x.history k.size x.cut)
+      (free x.cut 1) (x.tokens q) (x.waiting q)
+  awaited s k i v w x at o q =
+      let views' = slice_set s.views i w in
+      let was = k.lists q in
+      let l = total_set (listed q) s.views i v w at in
+      let c₀ = was.counted in
+      let c₁ = o.counted q in
+      let counted' : total (listed q) views' ≡ x.tokens q + x.waiting q = omega arith in
+      let under = asleep_listed q views' in
+      let laws' = o.laws q (total (sleeping q) s.views) (total (owed q) s.views) (total (closing q) s.views)
+      (total (sleeping q) views') (total (owed q) views') (total (closing q) views')
+      (total_set (sleeping q) s.views i v w at) (total_set (owed q) s.views i v w at)
+      (total_set (closing q) s.views i v w at)
+      (omega arith) was.quiet was.shut in
+      record { narrow = o.narrow q; counted = counted'; quiet = laws'.0; shut = laws'.1 }
+
   pub moved : (s : St T) (k : Keeps s) (i : ℕ) (v w : View T) (x : Next T) → get_elem? s.views i ≡ some v
       → Keeping s k i v w x → Keeps (after s x i w)
   moved s k i v w x at o =
       let many = size_set s.views i w in
       let here = below_length s.views i v at in
       let views' = slice_set s.views i w in
-      let l = total_set listed s.views i v w at in
-      let c₀ = k.counted in
-      let c₁ = o.counted in
-      let counted' : total listed views' ≡ x.tokens + x.waiting = omega arith in
-      let under = asleep_listed views' in
-      let laws' = o.laws (total sleeping s.views) (total owed s.views) (total closing s.views)
-      (total sleeping views') (total owed views') (total closing views')
-      (total_set sleeping s.views i v w at) (total_set owed s.views i v w at)
-      (total_set closing s.views i v w at)
-      (omega arith) k.quiet k.shut in
       record {
         history = x.history;
         states = x.states;
@@ -145,10 +149,7 @@ module _ {T : Type 0} where
         waiting = x.waiting;
         cut = x.cut;
         words = o.words;
-        narrow = o.narrow;
-        counted = counted';
-        quiet = laws'.0;
-        shut = laws'.1;
+        lists = awaited s k i v w x at o;
         sized = (o.sized.0, o.sized.1, k.sized.2);
         small = o.small;
         cutter = o.cutter;
@@ -186,9 +187,9 @@ module _ {T : Type 0} where
 
   pub record Steady (s : St T) (k : Keeps s) (i : ℕ) (v w : View T) (x : Next T) : Type 0 where
     pub words : x.words ≡ (drawn k.history + 9223372036854775808 * k.cut) ∷ taken k.history
-        ∷ (x.tokens + 4294967296 * x.waiting) ∷ k.states
-    pub narrow : x.tokens < 4294967296
-    pub counted : listed w + (k.tokens + k.waiting) ≡ listed v + (x.tokens + x.waiting)
+        ∷ (x.tokens Values + 4294967296 * x.waiting Values) ∷ (x.tokens Room + 4294967296 * x.waiting Room) ∷ k.states
+    pub narrow : (q : Want) → x.tokens q < 4294967296
+    pub counted : Counts s k v w x
     pub role : w.role ≡ v.role
     pub out_ : w.out ≡ v.out
     pub half : w.half ≡ v.half
@@ -230,13 +231,13 @@ module _ {T : Type 0} where
 
   -- the same where no word changes
   pub settled : (s : St T) (k : Keeps s) (i : ℕ) (v w : View T) → get_elem? s.views i ≡ some v
-      → listed w ≡ listed v → w.role ≡ v.role → w.out ≡ v.out → w.half ≡ v.half
+      → ((q : Want) → listed q w ≡ listed q v) → w.role ≡ v.role → w.out ≡ v.out → w.half ≡ v.half
       → Fits k.history k.size k.states k.cut k.hub k.roll i w → Laws s k v w (now s k)
       → Keeps record { words = s.words; homes = s.homes; views = slice_set s.views i w }
   settled s k i v w at li ro ou ha own laws = steady s k i v w (now s k) at record {
     words = k.words;
-    narrow = k.narrow;
-    counted = omega arith;
+    narrow = λ q. (k.lists q).narrow;
+    counted = λ q. let e = li q in omega arith;
     role = ro;
     out_ = ou;
     half = ha;
@@ -244,143 +245,30 @@ module _ {T : Type 0} where
     laws = laws;
   }
 
-  -- nothing owed or paid: the laws of sleep still hold
-  pub at_rest : (s : St T) (k : Keeps s) (v w : View T) (x : Next T) → AtRest s k v w x → Laws s k v w x
-  at_rest s k v w x r L O C L' O' C' l o c le q h =
-      let e₀ = ap (λ (d : Duty). d.asleep) r.0 in
-      let e₁ = ap (λ (d : Duty). d.wakes + d.looks + d.fresh + d.closing) r.0 in
-      let e₂ = ap (λ (d : Duty). d.closing) r.0 in
-      let t = r.1 in
-      let a = r.2 in
-      let m = r.3 in
-      let z : free x.cut 1 ≡ free k.cut 1 = ap (λ (n : ℕ). free n 1) r.4 in (
-        ⊎_elim (λ y. inl (omega arith)) (λ y. inr (omega arith)) q,
-        ⊎_elim (λ y. inl (omega arith)) (λ y. inr (omega arith)) h,
-      )
+  -- nothing is owed or paid, and no value comes or goes: the laws of sleep still hold
+  pub at_rest : (s : St T) (k : Keeps s) (v w : View T) (x : Next T) → w.duty ≡ v.duty → x.tokens ≡ k.tokens
+      → x.history ≡ k.history → x.cut ≡ k.cut → Laws s k v w x
+  at_rest s k v w x d t h c q = subst
+      (λ (y : Duties × (Want → ℕ) × History T × ℕ). Law (part q v.duty) (part q y.0)
+      (ready q k.history k.size k.cut) (ready q y.2 k.size y.3) (free k.cut 1) (free y.3 1)
+      (k.tokens q) (y.1 q) (x.waiting q))
+      (λ z. (sym d z, sym t z, sym h z, sym c z))
+      (law_rest (part q v.duty) (ready q k.history k.size k.cut) (free k.cut 1) (k.tokens q) (x.waiting q))
 
-  -- ---- a view that differs in what it owes alone. Only a pass owes anything
-  abbrev pub StaysIdle : View T → Duty → Type 0
-  StaysIdle v d = (v.role ≡ Member → ⊥) → v.duty ≡ no_duty → d ≡ no_duty
+  -- only what is owed for one list changes
+  pub one_owes : (s : St T) (k : Keeps s) (v : View T) (q : Want) (f : Duty → Duty)
+      → Law (part q v.duty) (f (part q v.duty)) (ready q k.history k.size k.cut) (ready q k.history k.size k.cut)
+      (free k.cut 1) (free k.cut 1) (k.tokens q) (k.tokens q) (k.waiting q) → Laws s k v (with_duty q f v) (now s k)
+  one_owes s k v Values f law Values = law
+  one_owes s k v Values f law Room = law_rest v.duty.room (ready Room k.history k.size k.cut) (free k.cut 1)
+      (k.tokens Room) (k.waiting Room)
+  one_owes s k v Room f law Values = law_rest v.duty.values (length k.history.rest) (free k.cut 1) (k.tokens Values)
+      (k.waiting Values)
+  one_owes s k v Room f law Room = law
 
-  pub refit : (h : History T) (n : ℕ) (states : List ℕ) (cut hub : ℕ) (roll : List ℕ) (i : ℕ) (v : View T) (d : Duty)
-      → StaysIdle v d → Fits h n states cut hub roll i v → Fits h n states cut hub roll i record v { duty = d }
-  refit h n states cut hub roll i v d idle f = record {
-    member = λ r. let m = f.member r in
-        record { sent = m.sent; got = m.got; cut = m.cut; no_hub = m.no_hub; not_back = m.not_back };
-    hub_ = λ r. let m = f.hub_ r in
-        record { here = m.here; ends = m.ends; nothing = m.nothing; idle = m.idle };
-    back = f.back;
-    debt = λ no_. idle no_ (f.debt no_);
-    half = f.half;
-    sight = f.sight;
-    heard = f.heard;
-    over = f.over;
-    last = f.last;
-  }
-
-  -- a view that saw something more
-  pub sighted : (h : History T) (n : ℕ) (states : List ℕ) (cut hub : ℕ) (roll : List ℕ) (i : ℕ) (v : View T) (x : Sight)
-      → Fits h n states cut hub roll i v → SightFits h n states cut x → v.sight.low ≤ x.low
-      → Fits h n states cut hub roll i record v { sight = x }
-  sighted h n states cut hub roll i v x f y low = record {
-    member = λ r. let m = f.member r in
-        record { sent = m.sent; got = m.got; cut = m.cut; no_hub = m.no_hub; not_back = m.not_back };
-    hub_ = λ r. let m = f.hub_ r in
-        record { here = m.here; ends = m.ends; nothing = m.nothing; idle = m.idle };
-    back = f.back;
-    debt = f.debt;
-    half = f.half;
-    sight = y;
-    heard = f.heard;
-    over = f.over;
-    last = λ r e. let l = f.last r e in omega arith;
-  }
-
-  -- ---- the state after a load, and after a step that changes nothing
-  pub loaded : (s : St T) (j i : ℕ) (c : List (ℕ × Option T)) (w : View T)
-      → Keeps record { words = s.words; homes = s.homes; views = slice_set s.views i w }
-      → Keeps (stepped s j (slice_index s.words j) i c w keeps)
-  loaded s j i c w k =
-      subst (λ (ws : List ℕ). Keeps record { words = ws; homes = s.homes; views = slice_set s.views i w })
-      (sym (set-get_or s.words j 0)) k
-
-  pub sees : (s : St T) (k : Keeps s) (j i : ℕ) (v : View T) → get_elem? s.views i ≡ some v
-      → (c : List (ℕ × Option T)) (x : Sight) → SightFits k.history k.size k.states k.cut x
-      → v.sight.low ≤ x.low
-      → Keeps (stepped s j (slice_index s.words j) i c record v { sight = x } keeps)
-  sees s k j i v at c x y low =
-      loaded s j i c record v { sight = x } (settled s k i v record v { sight = x } at refl refl refl refl
-      (sighted k.history k.size k.states k.cut k.hub k.roll i v x (k.fits i v at) y low)
-      (at_rest s k v record v { sight = x } (now s k) (refl, refl, refl, omega arith, refl)))
-
-  pub stays : (s : St T) (k : Keeps s) (j i : ℕ) (v : View T) → get_elem? s.views i ≡ some v
-      → (c : List (ℕ × Option T))
-      → Keeps (stepped s j (slice_index s.words j) i c v keeps)
-  stays s k j i v at c = loaded s j i c v
-      (subst (λ (vs : List (View T)). Keeps record { words = s.words; homes = s.homes; views = vs })
-      (sym (set_again s.views i v at)) k)
-
-  abbrev pub Goes : St T → ℕ → ℕ → Sat T → (ℕ → Sat T → Type 0) → ℕ → Type 0
-  Goes s j i me then m = (w : View T) × (a : Act (Option T)) × Valid s.homes me.1 a × Keeps
-      (stepped s j m i me.1 w a)
-      × then (slice_index s.words j) (w, carried_after me.1 a)
-
-  -- the rule, with the number of slots by another name
-  abbrev pub resized : (s : St T) (k : Keeps s) (n : ℕ) → k.size ≡ n → Keeps s
-  resized s k n q = record {
-    history = k.history;
-    states = k.states;
-    size = n;
-    tokens = k.tokens;
-    waiting = k.waiting;
-    cut = k.cut;
-    words = k.words;
-    narrow = k.narrow;
-    counted = k.counted;
-    quiet = k.quiet;
-    shut = k.shut;
-    sized = subst (λ m. (length k.states ≡ m) × (length s.homes ≡ m) × (0 < m)) q k.sized;
-    small = k.small;
-    cutter = k.cutter;
-    within = subst (λ m. drawn k.history ≤ taken k.history + m) q k.within;
-    undrawn = subst (λ m. Undrawn k.history m k.states s.homes) q k.undrawn;
-    waits = subst (λ m. Waiting k.history s.views m k.states s.homes) q k.waits;
-    taken_ = subst (λ m. Taken k.history s.views m k.states) q k.taken_;
-    hub = k.hub;
-    roll = k.roll;
-    idle = k.idle;
-    apart = k.apart;
-    rolled = k.rolled;
-    known = k.known;
-    out_ = k.out_;
-    newborn = k.newborn;
-    fits = subst (λ m. (i : ℕ) (v : View T) → get_elem? s.views i ≡ some v
-        → Fits k.history m k.states k.cut k.hub k.roll i v) q k.fits;
-  }
-
-  -- a step goes as it should if it does where the rule speaks of as many slots as there are
-  pub steps : (slots i : ℕ) (me : Sat T) (j : ℕ) (f : ℕ → ℕ) (then : ℕ → Sat T → Type 0)
-      → ((s : St T) (k : Keeps s) → k.size ≡ slots → get_elem? s.views i ≡ some me.0
-      → Goes s j i me then (f (slice_index s.words j)))
-      → Allows Keeps slots i me j f then
-  steps slots i me j f then go s k homes at small = go s k (sym k.sized.1 ∙ homes) at
-
-  -- a compare-exchange goes as it should if it succeeds, and else changes nothing
-  pub exchanges : (j : ℕ) (then : ℕ → Sat T → Type 0) (slots i : ℕ) (me : Sat T) (old new : ℕ)
-      → ((s : St T) (k : Keeps s) → k.size ≡ slots → get_elem? s.views i ≡ some me.0
-      → slice_index s.words j ≡ old → Goes s j i me then new)
-      → ((r : ℕ) → r ≢ old → then r me)
-      → Allows Keeps slots i me j (λ r. either (r == old) new r) then
-  exchanges j then slots i me old new hit miss s k homes at small =
-      exchanged (slice_index s.words j) old new (Goes s j i me then)
-      (λ e. hit s k (sym k.sized.1 ∙ homes) at e)
-      (λ ne. (me.0, keeps, tt, stays s k j i me.0 at me.1, miss (slice_index s.words j) ne))
-
-  pub at0 : (s : St T) (k : Keeps s) → slice_index s.words 0 ≡ drawn k.history + 9223372036854775808 * k.cut
-  at0 s k = ap (λ l. slice_index l 0) k.words
-
-  pub at1 : (s : St T) (k : Keeps s) → slice_index s.words 1 ≡ taken k.history
-  at1 s k = ap (λ l. slice_index l 1) k.words
-
-  pub at2 : (s : St T) (k : Keeps s) → slice_index s.words 2 ≡ k.tokens + 4294967296 * k.waiting
-  at2 s k = ap (λ l. slice_index l 2) k.words
+  pub one_listed : (v : View T) (q : Want) (f : Duty → Duty) → in_list (f (part q v.duty)) ≡ in_list (part q v.duty)
+      → (p : Want) → listed p (with_duty q f v) ≡ listed p v
+  one_listed v Values f e Values = e
+  one_listed v Values f e Room = refl
+  one_listed v Room f e Values = refl
+  one_listed v Room f e Room = e

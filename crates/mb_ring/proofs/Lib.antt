@@ -3,13 +3,16 @@ pub mod Base
 pub mod Turns
 pub mod Totals
 pub mod Halves
+pub mod Sleep
 pub mod Kept
+pub mod Loads
 pub mod Laps
 pub mod DrawMoves
 pub mod MarkMoves
 pub mod ClaimMoves
 pub mod ReadMoves
 pub mod LookMoves
+pub mod RoomMoves
 pub mod EmptyMoves
 pub mod CutMoves
 pub mod ListMoves

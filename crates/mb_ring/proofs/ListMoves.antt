@@ -1,208 +1,302 @@
--- The steps on the list of those that wait keep the rule.
+-- The steps on a list of those that wait keep the rule. They are the same for both lists.
 use Rattle.mb_ring.proofs.Base.{Allows, ap, arith, dec_lt, either, get_elem?, inl, inr, keeps, none, refl}
-use Rattle.mb_ring.proofs.Base.{slice_index, slice_set, some, step, sym, ℕ, ⊎_elim, ◌%◌, ◌*◌, ◌+◌, ◌-◌}
+use Rattle.mb_ring.proofs.Base.{slice_index, slice_set, some, step, subst, sym, ℕ, ⊎_elim, ◌%◌, ◌*◌, ◌+◌, ◌-◌}
 use Rattle.mb_ring.proofs.Base.{◌<◌, ◌==◌, ◌∙◌, ◌∷◌, ◌≡◌, ◌≤◌}
-use Rattle.mb_ring.specs.Vocabulary.{Duty, Keeps, Member, Sat, always, drawn, enters, exchanging}
-use Rattle.mb_ring.specs.Vocabulary.{gives_up, goes_unseen, hands_on, has_closed, has_woken, if_none_waits}
-use Rattle.mb_ring.specs.Vocabulary.{leaves, leaves_with_token, listed, owed, same, taken, wakes_up}
-use Rattle.mb_ring.specs.Vocabulary.{with_duty}
-use Rattle.mb_ring.proofs.Kept.{Goes, Laws, St, StaysIdle, at2, exchanges, loaded, now, refit, settled, stays, steady}
-use Rattle.mb_ring.proofs.EmptyMoves.{owing}
+use Rattle.mb_ring.specs.Vocabulary.{Duty, Keeps, Member, Room, Sat, Values, View, Want, always, drawn, enters, exchanging}
+use Rattle.mb_ring.specs.Vocabulary.{free, gives_up, goes_unseen, hands_on, has_closed, has_woken, if_none_waits, in_list}
+use Rattle.mb_ring.specs.Vocabulary.{leaves, leaves_with_token, list_word, no_duties, on, part, ready, same, taken, wakes_up, with_duty}
+use Rattle.mb_ring.proofs.Sleep.{Law, law_rest, put}
+use Rattle.mb_ring.proofs.Kept.{Counts, Laws, Next, St, now, steady}
+use Rattle.mb_ring.proofs.Loads.{Goes, StaysIdle, at_list_word, exchanges, owing, pays, refit, stays}
+
+-- what is owed for one list alone
+pub on_same : {T : Type 0} (q : Want) (v : View T) → with_duty q same v ≡ v
+on_same Values v = refl
+on_same Room v = refl
+
+pub owes_after : {T : Type 0} (q : Want) (v : View T) → 0 < (part q (with_duty q leaves_with_token v).duty).wakes
+owes_after Values v = omega arith
+owes_after Room v = omega arith
+
+-- who takes a token with it, and wakes another for it, has left
+pub on_leaves : {T : Type 0} (q : Want) (v : View T)
+    → with_duty q has_woken (with_duty q leaves_with_token v) ≡ with_duty q leaves v
+on_leaves Values v = let e : v.duty.values.wakes + 1 - 1 ≡ v.duty.values.wakes = omega arith in
+    (λ z. record (with_duty Values leaves v) {
+      duty = record v.duty {
+        values = record v.duty.values
+            { wakes = e z; leaving = v.duty.values.leaving - 1 };
+      };
+    })
+on_leaves Room v = let e : v.duty.room.wakes + 1 - 1 ≡ v.duty.room.wakes = omega arith in
+    (λ z. record (with_duty Room leaves v) {
+      duty = record v.duty {
+        room = record v.duty.room
+            { wakes = e z; leaving = v.duty.room.leaving - 1 };
+      };
+    })
+
+same_none : (q : Want) → on q same no_duties ≡ no_duties
+same_none Values = refl
+same_none Room = refl
+
+-- an exchange of one list's word for t tokens, and a that wait without one, is right
+abbrev IsRight : (Duty → Duty) → Duty → ℕ → ℕ → Type 0
+IsRight f d old new = (m n : ℕ) → m + 4294967296 * n ≡ old → m < 4294967296
+    → (t : ℕ) × (a : ℕ) × (new ≡ t + 4294967296 * a) × (t < 4294967296)
+    × (in_list (f d) + (m + n) ≡ in_list d + (t + a)) × ((r z : ℕ) → Law d (f d) r r z z m t a)
+
+module _ {T : Type 0} (s : St T) (k : Keeps s) (q : Want) (v : View T) (f : Duty → Duty) (t a new : ℕ) where
+  abbrev set_list : Next T
+  set_list = record (now s k) {
+    words = slice_set s.words (list_word q) new;
+    tokens = put q t k.tokens;
+    waiting = put q a k.waiting;
+  }
 
 module _ {T : Type 0} where
+  list_words : (s : St T) (k : Keeps s) (q : Want) (t a new : ℕ) → new ≡ t + 4294967296 * a
+      → slice_set s.words (list_word q) new ≡ (drawn k.history + 9223372036854775808 * k.cut) ∷ taken k.history
+      ∷ (put q t k.tokens Values + 4294967296 * put q a k.waiting Values)
+      ∷ (put q t k.tokens Room + 4294967296 * put q a k.waiting Room) ∷ k.states
+  list_words s k Values t a new is = ap (λ l. slice_set l 2 new) k.words
+      ∙ ap (λ r. (drawn k.history + 9223372036854775808 * k.cut) ∷ taken k.history ∷ r
+      ∷ (k.tokens Room + 4294967296 * k.waiting Room) ∷ k.states) is
+  list_words s k Room t a new is = ap (λ l. slice_set l 3 new) k.words
+      ∙ ap (λ r. (drawn k.history + 9223372036854775808 * k.cut) ∷ taken k.history
+      ∷ (k.tokens Values + 4294967296 * k.waiting Values) ∷ r ∷ k.states) is
+
+  list_narrow : (q p : Want) (g : Want → ℕ) (t : ℕ) → t < 4294967296 → ((o : Want) → g o < 4294967296)
+      → put q t g p < 4294967296
+  list_narrow Values Values g t lt all = lt
+  list_narrow Values Room g t lt all = all Room
+  list_narrow Room Values g t lt all = all Values
+  list_narrow Room Room g t lt all = lt
+
+  list_counts : (s : St T) (k : Keeps s) (q : Want) (v : View T) (f : Duty → Duty) (t a new : ℕ)
+      → in_list (f (part q v.duty)) + (k.tokens q + k.waiting q) ≡ in_list (part q v.duty) + (t + a)
+      → Counts s k v (with_duty q f v) (set_list s k q v f t a new)
+  list_counts s k Values v f t a new e Values = e
+  list_counts s k Values v f t a new e Room = refl
+  list_counts s k Room v f t a new e Values = refl
+  list_counts s k Room v f t a new e Room = e
+
+  list_laws : (s : St T) (k : Keeps s) (q : Want) (v : View T) (f : Duty → Duty) (t a new : ℕ)
+      → Law (part q v.duty) (f (part q v.duty)) (ready q k.history k.size k.cut) (ready q k.history k.size k.cut)
+      (free k.cut 1) (free k.cut 1) (k.tokens q) t a
+      → Laws s k v (with_duty q f v) (set_list s k q v f t a new)
+  list_laws s k Values v f t a new law Values = law
+  list_laws s k Values v f t a new law Room = law_rest v.duty.room (ready Room k.history k.size k.cut) (free k.cut 1)
+      (k.tokens Room) (k.waiting Room)
+  list_laws s k Room v f t a new law Values = law_rest v.duty.values (ready Values k.history k.size k.cut)
+      (free k.cut 1) (k.tokens Values) (k.waiting Values)
+  list_laws s k Room v f t a new law Room = law
+
   -- an exchange that leaves t tokens and a waiting
-  at_list : (f : Duty → Duty) (slots n : ℕ) (me : Sat T) (old new : ℕ) → StaysIdle me.0 (f me.0.duty)
-      → ((s : St T) (k : Keeps s) → get_elem? s.views n ≡ some me.0 → k.tokens + 4294967296 * k.waiting ≡ old
-      → (t : ℕ) × (a : ℕ) × (new ≡ t + 4294967296 * a) × (t < 4294967296)
-      × (listed (with_duty f me.0) + (k.tokens + k.waiting) ≡ listed me.0 + (t + a))
-      × Laws s k me.0 (with_duty f me.0) record (now s k)
-      { words = slice_set s.words 2 new; tokens = t; waiting = a })
-      → Allows Keeps slots n me 2 (λ r. either (r == old) new r)
-      (exchanging (with_duty f) (step slots 2 old new none) me)
-  at_list f slots n me old new idle go = exchanges 2 (exchanging (with_duty f) (step slots 2 old new none) me) slots n
+  at_list : (f : Duty → Duty) (q : Want) (slots n : ℕ) (me : Sat T) (j : ℕ) → j ≡ list_word q → (old new : ℕ)
+      → StaysIdle me.0 (on q f me.0.duty) → IsRight f (part q me.0.duty) old new
+      → Allows Keeps slots n me j (λ r. either (r == old) new r)
+      (exchanging (with_duty q f) (step slots j old new none) me)
+  at_list f q slots n me j is old new idle right = subst
+      (λ (i : ℕ). Allows Keeps slots n me i (λ r. either (r == old) new r)
+      (exchanging (with_duty q f) (step slots i old new none) me)) (sym is)
+      (exchanges (list_word q) (exchanging (with_duty q f) (step slots (list_word q) old new none) me) slots n
       me old new
-      (λ s k homes at e. let x = go s k at (sym (at2 s k) ∙ e) in (
-        with_duty f me.0,
+      (λ s k homes at e.
+      let x = right (k.tokens q) (k.waiting q) (sym (at_list_word q s k) ∙ e) (k.lists q).narrow in
+      let w : View T = with_duty q f me.0 in (
+        w,
         keeps,
         tt,
-        steady s k n me.0 (with_duty f me.0) record (now s k)
-            { words = slice_set s.words 2 new; tokens = x.0; waiting = x.1 } at record {
-              words = ap (λ l. slice_set l 2 new) k.words
-                  ∙ ap (λ r. (drawn k.history + 9223372036854775808 * k.cut) ∷ taken k.history ∷ r ∷ k.states) x.2;
-              narrow = x.3;
-              counted = x.4;
-              role = refl;
-              out_ = refl;
-              half = refl;
-              own = refit k.history k.size k.states k.cut k.hub k.roll n me.0 (f me.0.duty) idle (k.fits n me.0 at);
-              laws = x.5;
-            },
+        steady s k n me.0 w (set_list s k q me.0 f x.0 x.1 new) at record {
+          words = list_words s k q x.0 x.1 new x.2;
+          narrow = λ p. list_narrow q p k.tokens x.0 x.3 (λ o. (k.lists o).narrow);
+          counted = list_counts s k q me.0 f x.0 x.1 new x.4;
+          role = refl;
+          out_ = refl;
+          half = refl;
+          own = refit k.history k.size k.states k.cut k.hub k.roll n me.0 (on q f me.0.duty) idle (k.fits n me.0 at);
+          laws = list_laws s k q me.0 f x.0 x.1 new (x.5 (ready q k.history k.size k.cut) (free k.cut 1));
+        },
         ((λ _. (refl, refl)), λ ne. absurd (ne e)),
       ))
-      (λ r ne. ((λ e. absurd (ne e)), λ _. (refl, refl)))
+      (λ r ne. ((λ e. absurd (ne e)), λ _. (refl, refl))))
 
   -- a look that may find that nobody waits without a token
-  none_at : (f : Duty → Duty) (slots n : ℕ) (me : Sat T) → StaysIdle me.0 (f me.0.duty)
-      → listed (with_duty f me.0) ≡ listed me.0
-      → ((s : St T) (k : Keeps s) → k.waiting ≡ 0 → Laws s k me.0 (with_duty f me.0) (now s k))
-      → (s : St T) (k : Keeps s) → get_elem? s.views n ≡ some me.0 → Dec (slice_index s.words 2 < 4294967296)
-      → Goes s 2 n me (if_none_waits f (step slots 2 0 0 none) me) (slice_index s.words 2)
-  none_at f slots n me idle li laws s k at (yes low) = let e = at2 s k in (
-    with_duty f me.0,
-    keeps,
-    tt,
-    loaded s 2 n me.1 (with_duty f me.0) (settled s k n me.0 (with_duty f me.0) at li refl refl refl
-        (refit k.history k.size k.states k.cut k.hub k.roll n me.0 (f me.0.duty) idle (k.fits n me.0 at))
-        (laws s k (omega arith))),
-    ((λ _. (refl, refl)), λ high. absurd (omega arith)),
-  )
-  none_at f slots n me idle li laws s k at (no high) =
-      (me.0, keeps, tt, stays s k 2 n me.0 at me.1, ((λ low. absurd (high low)), λ _. (refl, refl)))
-
-  none_as : (f : Duty → Duty) (slots n : ℕ) (me : Sat T) → StaysIdle me.0 (f me.0.duty)
-      → listed (with_duty f me.0) ≡ listed me.0
-      → ((s : St T) (k : Keeps s) → k.waiting ≡ 0 → Laws s k me.0 (with_duty f me.0) (now s k))
-      → Allows Keeps slots n me 2 (λ r. r) (if_none_waits f (step slots 2 0 0 none) me)
-  none_as f slots n me idle li laws s k homes at small = none_at f slots n me idle li laws s k at
-      (dec_lt (slice_index s.words 2) 4294967296)
+  none_as : (f : Duty → Duty) (q : Want) (slots n : ℕ) (me : Sat T) (j : ℕ) → j ≡ list_word q
+      → StaysIdle me.0 (on q f me.0.duty) → in_list (f (part q me.0.duty)) ≡ in_list (part q me.0.duty)
+      → ((r z m : ℕ) → Law (part q me.0.duty) (f (part q me.0.duty)) r r z z m m 0)
+      → Allows Keeps slots n me j (λ r. r) (if_none_waits q f (step slots j 0 0 none) me)
+  none_as f q slots n me j is idle li law = subst
+      (λ (i : ℕ). Allows Keeps slots n me i (λ r. r) (if_none_waits q f (step slots i 0 0 none) me)) (sym is)
+      (λ s k homes at small. go s k at (dec_lt (slice_index s.words (list_word q)) 4294967296))
+    where
+      go : (s : St T) (k : Keeps s) → get_elem? s.views n ≡ some me.0
+          → Dec (slice_index s.words (list_word q) < 4294967296)
+          → Goes s (list_word q) n me (if_none_waits q f (step slots (list_word q) 0 0 none) me)
+          (slice_index s.words (list_word q))
+      go s k at (yes low) =
+          let e = at_list_word q s k in
+          let none_ : 0 ≡ k.waiting q = omega arith in
+          let law' = law (ready q k.history k.size k.cut) (free k.cut 1) (k.tokens q) in (
+            with_duty q f me.0,
+            keeps,
+            tt,
+            pays s k (list_word q) n me.0 at me.1 q f me.0.sight idle li
+                (subst (λ (a : ℕ). Law (part q me.0.duty) (f (part q me.0.duty)) (ready q k.history k.size k.cut)
+                (ready q k.history k.size k.cut) (free k.cut 1) (free k.cut 1) (k.tokens q) (k.tokens q) a) none_ law')
+                (k.fits n me.0 at).sight (omega arith),
+            ((λ _. (refl, refl)), λ high. absurd (omega arith)),
+          )
+      go s k at (no high) =
+          (me.0, keeps, tt, stays s k (list_word q) n me.0 at me.1, ((λ low. absurd (high low)), λ _. (refl, refl)))
 
   -- a step that always succeeds, and changes what is owed alone
-  owes_as : (f : Duty → Duty) (slots n : ℕ) (me : Sat T) → StaysIdle me.0 (f me.0.duty)
-      → listed (with_duty f me.0) ≡ listed me.0
-      → (f me.0.duty).asleep ≤ me.0.duty.asleep → owed me.0 ≤ owed (with_duty f me.0) → (f me.0.duty).closing
-      ≡ me.0.duty.closing
-      → Allows Keeps slots n me 2 (λ r. r) (always (with_duty f) (step slots 2 0 0 none) me)
-  owes_as f slots n me idle li sleeps ow cl s k homes at small = (
-    with_duty f me.0,
+  owes_as : (f : Duty → Duty) (q : Want) (slots n : ℕ) (me : Sat T) (j : ℕ) → StaysIdle me.0 (on q f me.0.duty)
+      → in_list (f (part q me.0.duty)) ≡ in_list (part q me.0.duty)
+      → ((r z m a : ℕ) → Law (part q me.0.duty) (f (part q me.0.duty)) r r z z m m a)
+      → Allows Keeps slots n me j (λ r. r) (always (with_duty q f) (step slots j 0 0 none) me)
+  owes_as f q slots n me j idle li law s k homes at small = (
+    with_duty q f me.0,
     keeps,
     tt,
-    loaded s 2 n me.1 (with_duty f me.0) (settled s k n me.0 (with_duty f me.0) at li refl refl refl
-        (refit k.history k.size k.states k.cut k.hub k.roll n me.0 (f me.0.duty) idle (k.fits n me.0 at))
-        (λ L O C L' O' C' l o c le q h. (
-          ⊎_elim (λ x. inl (omega arith)) (λ x. inr (omega arith)) q,
-          ⊎_elim (λ x. inl (omega arith)) (λ x. inr (omega arith)) h,
-        ))),
+    pays s k j n me.0 at me.1 q f me.0.sight idle li
+        (law (ready q k.history k.size k.cut) (free k.cut 1) (k.tokens q) (k.waiting q))
+        (k.fits n me.0 at).sight (omega arith),
     (refl, refl),
   )
 
-module _ {T : Type 0} (slots n : ℕ) (me : Sat T) where
-  pub none_waits : 0 < me.0.duty.wakes → Allows Keeps slots n me 2 (λ r. r)
-      (if_none_waits has_woken (step slots 2 0 0 none) me)
-  none_waits owes = none_as has_woken slots n me (owing (λ d. d.wakes) me.0 (has_woken me.0.duty) refl owes) refl
-      (λ s k none_ L O C L' O' C' l o c le q h. (inl (omega arith), inl (omega arith)))
+module _ {T : Type 0} (q : Want) (slots n : ℕ) (me : Sat T) (j : ℕ) (is : j ≡ list_word q) where
+  pub none_waits : 0 < (part q me.0.duty).wakes → Allows Keeps slots n me j (λ r. r)
+      (if_none_waits q has_woken (step slots j 0 0 none) me)
+  none_waits owes = none_as has_woken q slots n me j is
+      (owing q (λ d. d.wakes) me.0 (on q has_woken me.0.duty) refl owes) refl
+      (λ r z m L O C L' O' C' l o c le x h. (inl (omega arith), inl (omega arith)))
 
-  pub finishes : 0 < me.0.duty.closing → Allows Keeps slots n me 2 (λ r. r)
-      (if_none_waits has_closed (step slots 2 0 0 none) me)
-  finishes owes = none_as has_closed slots n me (owing (λ d. d.closing) me.0 (has_closed me.0.duty) refl owes) refl
-      (λ s k none_ L O C L' O' C' l o c le q h. (inl (omega arith), inl (omega arith)))
+  pub finishes : 0 < (part q me.0.duty).closing → Allows Keeps slots n me j (λ r. r)
+      (if_none_waits q has_closed (step slots j 0 0 none) me)
+  finishes owes = none_as has_closed q slots n me j is
+      (owing q (λ d. d.closing) me.0 (on q has_closed me.0.duty) refl owes) refl
+      (λ r z m L O C L' O' C' l o c le x h. (inl (omega arith), inl (omega arith)))
 
-  pub gives_up_at : 0 < me.0.duty.asleep → Allows Keeps slots n me 2 (λ r. r)
-      (always (with_duty gives_up) (step slots 2 0 0 none) me)
-  gives_up_at sleeps = owes_as gives_up slots n me (owing (λ d. d.asleep) me.0 (gives_up me.0.duty) refl sleeps)
-      (omega arith) (omega arith) (omega arith) refl
+  pub gives_up_at : 0 < (part q me.0.duty).asleep → Allows Keeps slots n me j (λ r. r)
+      (always (with_duty q gives_up) (step slots j 0 0 none) me)
+  gives_up_at sleeps = owes_as gives_up q slots n me j
+      (owing q (λ d. d.asleep) me.0 (on q gives_up me.0.duty) refl sleeps) (omega arith)
+      (λ r z m a L O C L' O' C' l o c le x h. (
+        ⊎_elim (λ y. inl (omega arith)) (λ y. inr (omega arith)) x,
+        ⊎_elim (λ y. inl (omega arith)) (λ y. inr (omega arith)) h,
+      ))
 
-  pub goes_unseen_at : 0 < me.0.duty.fresh → Allows Keeps slots n me 2 (λ r. r)
-      (always (with_duty goes_unseen) (step slots 2 0 0 none) me)
-  goes_unseen_at fresh = owes_as goes_unseen slots n me (owing (λ d. d.fresh) me.0 (goes_unseen me.0.duty) refl fresh)
-      (omega arith) (omega arith) (omega arith) refl
+  pub goes_unseen_at : 0 < (part q me.0.duty).fresh → Allows Keeps slots n me j (λ r. r)
+      (always (with_duty q goes_unseen) (step slots j 0 0 none) me)
+  goes_unseen_at fresh = owes_as goes_unseen q slots n me j
+      (owing q (λ d. d.fresh) me.0 (on q goes_unseen me.0.duty) refl fresh) (omega arith)
+      (λ r z m a L O C L' O' C' l o c le x h. (
+        ⊎_elim (λ y. inl (omega arith)) (λ y. inr (omega arith)) x,
+        ⊎_elim (λ y. inl (omega arith)) (λ y. inr (omega arith)) h,
+      ))
 
-  pub hands_on_at : 0 < me.0.duty.looks → Allows Keeps slots n me 2 (λ r. r)
-      (always (with_duty hands_on) (step slots 2 0 0 none) me)
-  hands_on_at owes = owes_as hands_on slots n me (owing (λ d. d.looks) me.0 (hands_on me.0.duty) refl owes)
-      refl (omega arith) (omega arith) refl
+  pub hands_on_at : 0 < (part q me.0.duty).looks → Allows Keeps slots n me j (λ r. r)
+      (always (with_duty q hands_on) (step slots j 0 0 none) me)
+  hands_on_at owes = owes_as hands_on q slots n me j
+      (owing q (λ d. d.looks) me.0 (on q hands_on me.0.duty) refl owes) refl
+      (λ r z m a L O C L' O' C' l o c le x h. (
+        ⊎_elim (λ y. inl (omega arith)) (λ y. inr (omega arith)) x,
+        ⊎_elim (λ y. inl (omega arith)) (λ y. inr (omega arith)) h,
+      ))
 
   module _ (old new : ℕ) where
-    pub gives_wake : 0 < me.0.duty.wakes → 4294967296 ≤ old → old % 4294967296 < 4294967295 → new + 4294967296
-        ≡ old + 1
-        → Allows Keeps slots n me 2 (λ r. either (r == old) new r)
-        (exchanging (with_duty has_woken) (step slots 2 old new none) me)
-    gives_wake owes waits room is = at_list has_woken slots n me old new
-        (owing (λ d. d.wakes) me.0 (has_woken me.0.duty) refl owes) (λ s k at e. let narrow = k.narrow in (
-          k.tokens + 1,
-          k.waiting - 1,
+    pub gives_wake : 0 < (part q me.0.duty).wakes → 4294967296 ≤ old → old % 4294967296 < 4294967295
+        → new + 4294967296 ≡ old + 1
+        → Allows Keeps slots n me j (λ r. either (r == old) new r)
+        (exchanging (with_duty q has_woken) (step slots j old new none) me)
+    gives_wake owes waits room eq = at_list has_woken q slots n me j is old new
+        (owing q (λ d. d.wakes) me.0 (on q has_woken me.0.duty) refl owes) (λ t w e narrow. (
+          t + 1,
+          w - 1,
           omega arith,
           omega arith,
           omega arith,
-          (λ L O C L' O' C' l o c le q h. (
-            ⊎_elim (λ x. inl (omega arith)) (λ x. inr (omega arith)) q,
-            ⊎_elim (λ x. inl (omega arith)) (λ x. inr (omega arith)) h,
+          (λ r z L O C L' O' C' l o c le x h. (
+            ⊎_elim (λ y. inl (omega arith)) (λ y. inr (omega arith)) x,
+            ⊎_elim (λ y. inl (omega arith)) (λ y. inr (omega arith)) h,
           )),
         ))
 
     pub gives_all : 4294967296 ≤ old → old % 4294967296 < 4294967295 → new + 4294967296 ≡ old + 1
-        → Allows Keeps slots n me 2 (λ r. either (r == old) new r)
-        (exchanging (with_duty same) (step slots 2 old new none) me)
-    gives_all waits room is = at_list same slots n me old new
-        (λ _ e. e) (λ s k at e. let narrow = k.narrow in (
-          k.tokens + 1,
-          k.waiting - 1,
+        → Allows Keeps slots n me j (λ r. either (r == old) new r)
+        (exchanging (with_duty q same) (step slots j old new none) me)
+    gives_all waits room eq = at_list same q slots n me j is old new
+        (λ _ e. ap (on q same) e ∙ same_none q) (λ t w e narrow. (
+          t + 1,
+          w - 1,
           omega arith,
           omega arith,
           omega arith,
-          (λ L O C L' O' C' l o c le q h. (
-            ⊎_elim (λ x. inl (omega arith)) (λ x. inr (omega arith)) q,
-            ⊎_elim (λ x. inl (omega arith)) (λ x. inr (omega arith)) h,
+          (λ r z L O C L' O' C' l o c le x h. (
+            ⊎_elim (λ y. inl (omega arith)) (λ y. inr (omega arith)) x,
+            ⊎_elim (λ y. inl (omega arith)) (λ y. inr (omega arith)) h,
           )),
         ))
 
     pub goes_in : me.0.role ≡ Member → new ≡ old + 4294967296
-        → Allows Keeps slots n me 2 (λ r. either (r == old) new r)
-        (exchanging (with_duty enters) (step slots 2 old new none) me)
-    goes_in role is = at_list enters slots n me old new
-        (λ no_ e. absurd (no_ role)) (λ s k at e. let narrow = k.narrow in (
-          k.tokens,
-          k.waiting + 1,
+        → Allows Keeps slots n me j (λ r. either (r == old) new r)
+        (exchanging (with_duty q enters) (step slots j old new none) me)
+    goes_in role eq = at_list enters q slots n me j is old new
+        (λ no_ e. absurd (no_ role)) (λ t w e narrow. (
+          t,
+          w + 1,
           omega arith,
           narrow,
           omega arith,
-          (λ L O C L' O' C' l o c le q h. (
-            ⊎_elim (λ x. inl (omega arith)) (λ x. inr (omega arith)) q,
-            ⊎_elim (λ x. inl (omega arith)) (λ x. inr (omega arith)) h,
+          (λ r z L O C L' O' C' l o c le x h. (
+            ⊎_elim (λ y. inl (omega arith)) (λ y. inr (omega arith)) x,
+            ⊎_elim (λ y. inl (omega arith)) (λ y. inr (omega arith)) h,
           )),
         ))
 
-    pub goes_out : 0 < me.0.duty.leaving → old ≡ new + 4294967296
-        → Allows Keeps slots n me 2 (λ r. either (r == old) new r)
-        (exchanging (with_duty leaves) (step slots 2 old new none) me)
-    goes_out may is = at_list leaves slots n me old new
-        (owing (λ d. d.leaving) me.0 (leaves me.0.duty) refl may) (λ s k at e. let narrow = k.narrow in (
-          k.tokens,
-          k.waiting - 1,
+    pub goes_out : 0 < (part q me.0.duty).leaving → old ≡ new + 4294967296
+        → Allows Keeps slots n me j (λ r. either (r == old) new r)
+        (exchanging (with_duty q leaves) (step slots j old new none) me)
+    goes_out may eq = at_list leaves q slots n me j is old new
+        (owing q (λ d. d.leaving) me.0 (on q leaves me.0.duty) refl may) (λ t w e narrow. (
+          t,
+          w - 1,
           omega arith,
           narrow,
           omega arith,
-          (λ L O C L' O' C' l o c le q h. (
-            ⊎_elim (λ x. inl (omega arith)) (λ x. inr (omega arith)) q,
-            ⊎_elim (λ x. inl (omega arith)) (λ x. inr (omega arith)) h,
+          (λ r z L O C L' O' C' l o c le x h. (
+            ⊎_elim (λ y. inl (omega arith)) (λ y. inr (omega arith)) x,
+            ⊎_elim (λ y. inl (omega arith)) (λ y. inr (omega arith)) h,
           )),
         ))
 
-    pub goes_out_woken : 0 < me.0.duty.leaving → old < 4294967296 → old ≡ new + 1
-        → Allows Keeps slots n me 2 (λ r. either (r == old) new r)
-        (exchanging (with_duty leaves_with_token) (step slots 2 old new none) me)
-    goes_out_woken may woken is = at_list leaves_with_token slots n me old new
-        (owing (λ d. d.leaving) me.0 (leaves_with_token me.0.duty) refl may)
-        (λ s k at e. let narrow = k.narrow in (
-          k.tokens - 1,
+    pub goes_out_woken : 0 < (part q me.0.duty).leaving → old < 4294967296 → old ≡ new + 1
+        → Allows Keeps slots n me j (λ r. either (r == old) new r)
+        (exchanging (with_duty q leaves_with_token) (step slots j old new none) me)
+    goes_out_woken may woken eq = at_list leaves_with_token q slots n me j is old new
+        (owing q (λ d. d.leaving) me.0 (on q leaves_with_token me.0.duty) refl may) (λ t w e narrow. (
+          t - 1,
           0,
           omega arith,
           omega arith,
           omega arith,
-          (λ L O C L' O' C' l o c le q h. (inl (omega arith), inl (omega arith))),
+          (λ r z L O C L' O' C' l o c le x h. (inl (omega arith), inl (omega arith))),
         ))
 
-    pub accepts : 0 < me.0.duty.asleep → 0 < old % 4294967296 → old ≡ new + 1
-        → Allows Keeps slots n me 2 (λ r. either (r == old) new r)
-        (exchanging (with_duty wakes_up) (step slots 2 old new none) me)
-    accepts sleeps token is = at_list wakes_up slots n me old new
-        (owing (λ d. d.asleep) me.0 (wakes_up me.0.duty) refl sleeps) (λ s k at e. let narrow = k.narrow in (
-          k.tokens - 1,
-          k.waiting,
+    pub accepts : 0 < (part q me.0.duty).asleep → 0 < old % 4294967296 → old ≡ new + 1
+        → Allows Keeps slots n me j (λ r. either (r == old) new r)
+        (exchanging (with_duty q wakes_up) (step slots j old new none) me)
+    accepts sleeps token eq = at_list wakes_up q slots n me j is old new
+        (owing q (λ d. d.asleep) me.0 (on q wakes_up me.0.duty) refl sleeps) (λ t w e narrow. (
+          t - 1,
+          w,
           omega arith,
           omega arith,
           omega arith,
-          (λ L O C L' O' C' l o c le q h. (
-            ⊎_elim (λ x. inl (omega arith)) (λ x. inr (omega arith)) q,
-            ⊎_elim (λ x. inl (omega arith)) (λ x. inr (omega arith)) h,
+          (λ r z L O C L' O' C' l o c le x h. (
+            ⊎_elim (λ y. inl (omega arith)) (λ y. inr (omega arith)) x,
+            ⊎_elim (λ y. inl (omega arith)) (λ y. inr (omega arith)) h,
           )),
         ))

@@ -8,9 +8,9 @@ use Rattle.mb_segment.proofs.Spots.{below_length, index_at, map_length, no_some,
 use Rattle.mb_segment.proofs.Halves.{either_over, empty_slots, hub_is_no_member, hub_is_not_spent, no_hub, spent_is_no_member}
 use Rattle.mb_ring.specs.Vocabulary.{Fits, Half, HasHalf, History, In, IsMember, Issuer, Keeps, Match, Member, Nothing, Reads, Role, Spent}
 use Rattle.mb_ring.specs.Vocabulary.{View, Writes, blank, if_hub, issued, member, new_hub, one_if_member, out, spent, spot, took_back, total, turn}
-use Rattle.mb_ring.specs.Vocabulary.{Duty, closing, listed, no_duty, owed, sleeping}
+use Rattle.mb_ring.specs.Vocabulary.{Duty, IsAwaited, Room, Values, Want, closing, debts, free, in_list, listed, no_duties, owed, part, ready, sleeping}
 use Rattle.mb_ring.proofs.Totals.{below_total, one_in_total, total_set, total_snoc}
-use Rattle.mb_ring.proofs.Halves.{half_stays}
+use Rattle.mb_ring.proofs.Halves.{half_stays, no_part}
 use Rattle.mb_ring.proofs.Kept.{St}
 use Rattle.atomic_table.proofs.Lists.{at_map}
 
@@ -22,6 +22,18 @@ first_turn n k some_ lt =
     = index_at (replicate n 0) (k % n) 0 (replicate_at n 0 (k % n) (mod_below k n some_)) in omega arith
 
 module _ {T : Type 0} where
+  -- the laws of a list hold for other views with the same sums
+  same_sums : (q : Want) (vs ws : List (View T)) (goods open_ tokens waiting : ℕ)
+      → IsAwaited vs q goods open_ tokens waiting → total (listed q) ws ≡ total (listed q) vs
+      → total (sleeping q) ws ≡ total (sleeping q) vs → total (owed q) ws ≡ total (owed q) vs
+      → total (closing q) ws ≡ total (closing q) vs → IsAwaited ws q goods open_ tokens waiting
+  same_sums q vs ws goods open_ tokens waiting k e₀ e₁ e₂ e₃ = let c = k.counted in record {
+    narrow = k.narrow;
+    counted = omega arith;
+    quiet = ⊎_elim (λ x. inl (omega arith)) (λ x. inr (omega arith)) k.quiet;
+    shut = ⊎_elim (λ x. inl (omega arith)) (λ x. inr (omega arith)) k.shut;
+  }
+
   -- a view of a pass that did nothing, or of one that came back, saw nothing
   unseen : (h : History T) (n : ℕ) (states : List ℕ) (cut hub : ℕ) (roll : List ℕ) (i : ℕ) (r : Role)
       → (r ≡ Member → IsMember h hub roll i blank) → (r ≡ Issuer → (i ≡ hub) × Match h roll [])
@@ -56,7 +68,7 @@ module _ {T : Type 0} where
   unused = record { claims = []; rest = []; cutter = None }
 
   pub opens : (count : ℕ) → 0 < count
-      → Keeps (opening (0 ∷ 0 ∷ 0 ∷ replicate count 0) (empty_slots T count) new_hub)
+      → Keeps (opening (0 ∷ 0 ∷ 0 ∷ 0 ∷ replicate count 0) (empty_slots T count) new_hub)
   opens count some_ =
       let m₀ : length {A = ℕ} (replicate count 0) ≡ count = replicate_length count 0 in
       let m₁ : length (empty_slots T count) ≡ count = replicate_length count None in
@@ -65,14 +77,16 @@ module _ {T : Type 0} where
         history = unused;
         states = replicate count 0;
         size = count;
-        tokens = 0;
-        waiting = 0;
+        tokens = λ q. 0;
+        waiting = λ q. 0;
         cut = 0;
         words = refl;
-        narrow = omega arith;
-        counted = refl;
-        quiet = inl (omega arith);
-        shut = inl (omega arith);
+        lists = elim [
+          | Values ↦ record
+              { narrow = omega arith; counted = refl; quiet = inl (omega arith); shut = inl (omega arith) }
+          | Room ↦ record
+              { narrow = omega arith; counted = refl; quiet = inl (omega arith); shut = inl (omega arith) }
+        ];
         sized = (m₀, omega arith, some_);
         small = omega arith;
         cutter = refl;
@@ -126,11 +140,6 @@ module _ {T : Type 0} where
       let one : List (View T) = slice_set s.views n w in
       let many = size_set s.views n w in
       let more : length (one ++ blank ∷ []) ≡ length one + 1 = length-append one (blank ∷ []) in
-      let a₀ = total_set listed s.views n v w at in let b₀ = total_snoc listed one blank in
-      let a₁ = total_set sleeping s.views n v w at in let b₁ = total_snoc sleeping one blank in
-      let a₂ = total_set owed s.views n v w at in let b₂ = total_snoc owed one blank in
-      let a₃ = total_set closing s.views n v w at in let b₃ = total_snoc closing one blank in
-      let c = k.counted in
       let a₄ = total_set member s.views n v w at in let b₄ = total_snoc member one blank in
       let a₅ = total_set out s.views n v w at in let b₅ = total_snoc out one blank in
       let o₀ : if_hub v.role (v.out + 1) ≡ v.out + 1 = ap (λ (r : Role). if_hub r (v.out + 1)) role in
@@ -144,10 +153,17 @@ module _ {T : Type 0} where
         waiting = k.waiting;
         cut = k.cut;
         words = k.words;
-        narrow = k.narrow;
-        counted = omega arith;
-        quiet = ⊎_elim (λ x. inl (omega arith)) (λ x. inr (omega arith)) k.quiet;
-        shut = ⊎_elim (λ x. inl (omega arith)) (λ x. inr (omega arith)) k.shut;
+        lists = λ q.
+            let a₀ = total_set (listed q) s.views n v w at in let b₀ = total_snoc (listed q) one blank in
+            let a₁ = total_set (sleeping q) s.views n v w at in let b₁ = total_snoc (sleeping q) one blank in
+            let a₂ = total_set (owed q) s.views n v w at in let b₂ = total_snoc (owed q) one blank in
+            let a₃ = total_set (closing q) s.views n v w at in let b₃ = total_snoc (closing q) one blank in
+            let z₀ : listed {T = T} q blank ≡ 0 = ap in_list (no_part q) in
+            let z₁ : sleeping {T = T} q blank ≡ 0 = ap (λ (d : Duty). d.asleep) (no_part q) in
+            let z₂ : owed {T = T} q blank ≡ 0 = ap debts (no_part q) in
+            let z₃ : closing {T = T} q blank ≡ 0 = ap (λ (d : Duty). d.closing) (no_part q) in
+            same_sums q s.views (one ++ blank ∷ []) (ready q k.history k.size k.cut) (free k.cut 1) (k.tokens q)
+            (k.waiting q) (k.lists q) (omega arith) (omega arith) (omega arith) (omega arith);
         sized = k.sized;
         small = k.small;
         cutter = k.cutter;
@@ -217,7 +233,7 @@ module _ {T : Type 0} where
           go Spent e = ap (λ (x : Role). if_hub x u.out) e
 
   module _ (n : ℕ) (v : View T) (other : ℕ) (w : View T) (v_role : v.role ≡ Issuer) (w_role : w.role ≡ Member)
-      (w_half : w.half ≡ Nothing) (w_duty : w.duty ≡ no_duty) (s : St T) (k : Keeps s)
+      (w_half : w.half ≡ Nothing) (w_duty : w.duty ≡ no_duties) (s : St T) (k : Keeps s)
       (at : get_elem? s.views n ≡ some v) (apart : ¬ (other ≡ n))
       (at_other : get_elem? (slice_set s.views n (took_back v w)) other ≡ some w) where
     abbrev one : List (View T)
@@ -299,19 +315,6 @@ module _ {T : Type 0} where
         let many = size_set s.views n (took_back v w) in
         let many₁ = size_set one other spent in
         let below = below_length s.views other w was_other in
-        let a₀ = total_set listed s.views n v (took_back v w) at in
-        let b₀ = total_set listed one other w spent at_other in
-        let a₁ = total_set sleeping s.views n v (took_back v w) at in
-        let b₁ = total_set sleeping one other w spent at_other in
-        let a₂ = total_set owed s.views n v (took_back v w) at in
-        let b₂ = total_set owed one other w spent at_other in
-        let a₃ = total_set closing s.views n v (took_back v w) at in
-        let b₃ = total_set closing one other w spent at_other in
-        let w₀ : listed w ≡ 0 = ap (λ (d : Duty). d.fresh + d.asleep + d.leaving) w_duty in
-        let w₁ : sleeping w ≡ 0 = ap (λ (d : Duty). d.asleep) w_duty in
-        let w₂ : owed w ≡ 0 = ap (λ (d : Duty). d.wakes + d.looks + d.fresh + d.closing) w_duty in
-        let w₃ : closing w ≡ 0 = ap (λ (d : Duty). d.closing) w_duty in
-        let c = k.counted in
         let a₄ = total_set member s.views n v (took_back v w) at in
         let b₄ = total_set member one other w spent at_other in
         let a₅ = total_set out s.views n v (took_back v w) at in
@@ -331,10 +334,22 @@ module _ {T : Type 0} where
           waiting = k.waiting;
           cut = k.cut;
           words = k.words;
-          narrow = k.narrow;
-          counted = omega arith;
-          quiet = ⊎_elim (λ x. inl (omega arith)) (λ x. inr (omega arith)) k.quiet;
-          shut = ⊎_elim (λ x. inl (omega arith)) (λ x. inr (omega arith)) k.shut;
+          lists = λ q.
+              let a₀ = total_set (listed q) s.views n v (took_back v w) at in
+              let b₀ = total_set (listed q) one other w spent at_other in
+              let a₁ = total_set (sleeping q) s.views n v (took_back v w) at in
+              let b₁ = total_set (sleeping q) one other w spent at_other in
+              let a₂ = total_set (owed q) s.views n v (took_back v w) at in
+              let b₂ = total_set (owed q) one other w spent at_other in
+              let a₃ = total_set (closing q) s.views n v (took_back v w) at in
+              let b₃ = total_set (closing q) one other w spent at_other in
+              let e₀ : part q w.duty ≡ part q no_duties = ap (part q) w_duty in
+              let w₀ : listed q w ≡ listed {T = T} q spent = ap in_list e₀ in
+              let w₁ : sleeping q w ≡ sleeping {T = T} q spent = ap (λ (d : Duty). d.asleep) e₀ in
+              let w₂ : owed q w ≡ owed {T = T} q spent = ap debts e₀ in
+              let w₃ : closing q w ≡ closing {T = T} q spent = ap (λ (d : Duty). d.closing) e₀ in
+              same_sums q s.views two (ready q k.history k.size k.cut) (free k.cut 1) (k.tokens q) (k.waiting q)
+              (k.lists q) (omega arith) (omega arith) (omega arith) (omega arith);
           sized = k.sized;
           small = k.small;
           cutter = k.cutter;
@@ -356,6 +371,6 @@ module _ {T : Type 0} where
         }
 
   pub joins : (n : ℕ) (v : View T) (other : ℕ) (w : View T) → v.role ≡ Issuer → w.role ≡ Member → w.half ≡ Nothing
-      → w.duty ≡ no_duty → Joins Keeps n v other w (took_back v w) spent
+      → w.duty ≡ no_duties → Joins Keeps n v other w (took_back v w) spent
   joins n v other w v_role w_role w_half w_duty s k at apart at_other =
       joined n v other w v_role w_role w_half w_duty s k at apart at_other

@@ -1,14 +1,16 @@
 -- Who drew, claimed or cut.
 use Rattle.mb_ring.proofs.Base.{Bool, List, Option, Some, [], ap, arith, eq-eqb, false, get_elem?, inl, inr, length, refl, some, some-injective}
-use Rattle.mb_ring.proofs.Base.{some-ne-none, subst, suc, sym, true, true≢false, zero, ℕ, ◌+◌, ◌∙◌, ◌∷◌, ◌≡◌, ◌≤◌, ◌⊎◌, ⊎_elim}
+use Rattle.mb_ring.proofs.Base.{some-ne-none, subst, suc, sym, true, true≢false, zero, ℕ, dec_lt, dite, ◌+◌, ◌-◌, ◌<◌, ◌∙◌, ◌∷◌, ◌≡◌, ◌≤◌, ◌⊎◌, ⊎_elim}
 use Rattle.mb_segment.proofs.Base.{if◌then◌else◌, nat_eq}
-use Rattle.mb_segment.proofs.Halves.{hub_is_not_spent, no_hub}
+use Rattle.mb_segment.proofs.Halves.{free_shut, hub_is_not_spent, no_hub}
 use Rattle.mb_segment.proofs.Places.{claimed_at, drawn_at, some_cutter}
 use Rattle.mb_segment.proofs.Spots.{at_below}
 use Rattle.mb_ring.specs.Vocabulary.{Account, Claim, Entry, Has, History, IsCut, IsMember, IsOfPass, IsPassOf, Issuer, Keeps, Member}
 use Rattle.mb_ring.specs.Vocabulary.{Role, Spent, Spot, View, all_entries, drawn, drawn_in, has_cut, is_of, new_hub, spot, spots_by, spots_to}
+use Rattle.mb_ring.specs.Vocabulary.{Room, Want, closing, free, ready, sleeping, total}
 use Rattle.mb_ring.proofs.PassMoves.{first_is}
-use Rattle.mb_ring.proofs.Kept.{St, at0}
+use Rattle.mb_ring.proofs.Kept.{St}
+use Rattle.mb_ring.proofs.Loads.{at0}
 
 module _ {T : Type 0} where
   -- an entry by pass n stands in the list of pass n
@@ -139,3 +141,19 @@ module _ {T : Type 0} where
       let q = t.2 in
       let m : t.0 ≡ p = omega arith in
       (t.1, subst (λ (i : ℕ). get_elem? k.history.claims i ≡ some t.1) m t.3, t.4, t.5)
+
+  -- as long as the ring is open, each place without a value that waits is room
+  pub room_left : (s : St T) (k : Keeps s) → (IsCut s → ⊥)
+      → ready Room k.history k.size k.cut ≡ k.size - length k.history.rest
+  room_left s k open_ =
+      let e = at0 s k in let m = k.small in
+      let zero_ : k.cut ≡ 0 = dite (dec_lt 0 k.cut) (λ lt. absurd (open_ (omega arith))) (λ no_. omega arith) in
+      ap (λ (c : ℕ). free c (k.size - length k.history.rest)) zero_
+
+  -- where one sleeps without a token, somebody owes a token to all, or the ring is open
+  pub goes_on : (s : St T) (k : Keeps s) (q : Want) → k.tokens q < total (sleeping q) s.views
+      → (0 < total (closing q) s.views) ⊎ (IsCut s → ⊥)
+  goes_on s k q few = dite (dec_lt 0 (total (closing q) s.views)) inl (λ none_. inr (λ cut.
+      let e = at0 s k in let m = k.small in
+      let shut_ : free k.cut 1 ≡ 0 = free_shut k.cut 1 (omega arith) in
+      ⊎_elim (λ x. absurd (omega arith)) (λ x. absurd (omega arith)) (k.lists q).shut))

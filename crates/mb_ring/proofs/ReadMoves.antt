@@ -9,7 +9,8 @@ use Rattle.mb_ring.specs.Vocabulary.{Claim, Half, HalfFits, Homes, IsTaken, Keep
 use Rattle.mb_ring.specs.Vocabulary.{View, Waiting, Writes, ended, ending, spot, taken, turn}
 use Rattle.mb_ring.proofs.Turns.{next_lap, one_slot, other_slot, turn_else, turn_here}
 use Rattle.mb_ring.proofs.Halves.{half_else}
-use Rattle.mb_ring.proofs.Kept.{Next, St, at_rest, moved, resized, steps}
+use Rattle.mb_ring.proofs.Kept.{Next, St, at_rest, moved}
+use Rattle.mb_ring.proofs.Loads.{resized, steps}
 
 -- pass i has read the position that it claimed: the turn is then 2 (p + n), so that the slot is free for p + n
 module _ {T : Type 0} (s : St T) (k : Keeps s) (i : ℕ) (v w : View T) (at : get_elem? s.views i ≡ some v)
@@ -120,7 +121,7 @@ module _ {T : Type 0} (s : St T) (k : Keeps s) (i : ℕ) (v w : View T) (at : ge
       go (no ne) = let e = else_ j ne in omega arith
 
 module _ {T : Type 0} where
-  pub reads_end : (slots i : ℕ) (me : Sat T) (j y : ℕ) (p : Spot T) → j ≡ p.at % slots + 3
+  pub reads_end : (slots i : ℕ) (me : Sat T) (j y : ℕ) (p : Spot T) → j ≡ p.at % slots + 4
       → y + 2 * (p.at % slots) ≡ 2 * (p.at + slots) → me.0.role ≡ Member → me.0.half ≡ Reads p
       → me.1 ≡ (p.at % slots, None) ∷ rest me.1
       → Allows Keeps slots i me j (λ _. y) (λ _. ending (step slots j y 0 none) me y)
@@ -131,7 +132,7 @@ module _ {T : Type 0} where
       let v = me.0 in
       let w = ended v in
       let fit = k.fits i v at in
-      let jj : j ≡ suc (suc (suc (p.at % slots))) = omega arith in
+      let jj : j ≡ suc (suc (suc (suc (p.at % slots)))) = omega arith in
       let given : homes_after s.homes me.1 gives ≡ slice_set s.homes (p.at % slots) (some None)
       = ap (λ (c : List (ℕ × Option T)). homes_after s.homes c gives) held in
       let m₀ = size_set k.states (p.at % slots) y in
@@ -156,9 +157,9 @@ module _ {T : Type 0} where
         }) (sym given)
             (moved s k i v w x' at record {
               words = λ z. slice_set (k.words z) (jj z) y;
-              narrow = k.narrow;
-              counted = omega arith;
-              laws = at_rest s k v w x' (refl, refl, refl, omega arith, refl);
+              narrow = λ q. (k.lists q).narrow;
+              counted = λ q. refl;
+              laws = at_rest s k v w x' refl refl refl refl;
               sized = (m₀ ∙ k.sized.0, m₁ ∙ k.sized.1);
               small = k.small;
               within = k.within;

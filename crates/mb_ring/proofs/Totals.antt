@@ -1,7 +1,7 @@
 -- Sums over the views.
 use Rattle.mb_ring.proofs.Base.{List, [], ap, arith, get_elem?, refl, slice_set, some, some-injective, some-ne-none, suc}
 use Rattle.mb_ring.proofs.Base.{sym, zero, ℕ, ◌++◌, ◌+◌, ◌∷◌, ◌≡◌, ◌≢◌, ◌≤◌}
-use Rattle.mb_ring.specs.Vocabulary.{View, listed, sleeping, total}
+use Rattle.mb_ring.specs.Vocabulary.{View, Want, listed, sleeping, total}
 
 module _ {T : Type 0} where
   pub total_set : (f : View T → ℕ) (views : List (View T)) (n : ℕ) (v w : View T) → get_elem? views n ≡ some v
@@ -21,9 +21,9 @@ module _ {T : Type 0} where
   below_total f (x ∷ xs) zero v at = let e : f x ≡ f v = ap f (some-injective x v at) in omega arith
   below_total f (x ∷ xs) (suc n) v at = let r = below_total f xs n v at in omega arith
 
-  pub asleep_listed : (views : List (View T)) → total sleeping views ≤ total listed views
-  asleep_listed [] = omega arith
-  asleep_listed (x ∷ xs) = let r = asleep_listed xs in omega arith
+  pub asleep_listed : (q : Want) (views : List (View T)) → total (sleeping q) views ≤ total (listed q) views
+  asleep_listed q [] = omega arith
+  asleep_listed q (x ∷ xs) = let r = asleep_listed q xs in omega arith
 
   none_in_total : (f : View T → ℕ) (views : List (View T))
       → ((n : ℕ) (v : View T) → get_elem? views n ≡ some v → f v ≡ 0) → total f views ≡ 0

@@ -1,9 +1,11 @@
 -- What the laws of all histories speak of.
-use Rattle.std.specs.Prelude.{Option, slice_index, ℕ, ◌%◌, ◌≡◌, ◌≤◌, ◌⊎◌}
+use Rattle.std.specs.Prelude.{Option, slice_index, ℕ, ◌%◌, ◌+◌, ◌-◌, ◌<◌, ◌≡◌, ◌≤◌, ◌⊎◌}
 use mathlib.Core.Option.{some}
 use lib.ListN.{get_elem?}
 use Rattle.atomic_table.specs.Table.{State}
-use Rattle.mb_ring.specs.Types.{Account, Member, Spent, View}
+use Rattle.mb_ring.specs.Types.{Account, Member, Spent, View, Want}
+use Rattle.mb_ring.specs.Passes.{closing, owed, sleeping, total}
+use Rattle.mb_ring.specs.Rule.{Keeps}
 
 abbrev pub RingState : Type 0 → Type 0
 RingState T = State (Option T) (View T)
@@ -25,6 +27,30 @@ IsViewOf s i v = get_elem? s.views i ≡ some v
 -- it is the view of a pass that is out
 abbrev pub IsPassOf : {T : Type 0} → RingState T → ℕ → View T → Type 0
 IsPassOf s i v = (get_elem? s.views i ≡ some v) × (v.role ≡ Member)
+
+-- how many values wait
+abbrev pub waiting_in : {T : Type 0} → RingState T → ℕ
+waiting_in s = drawn_in s - claimed_in s
+
+-- who sleeps in a list, and what is owed to them
+pub record Sleepers : Type 0 where
+  pub asleep : ℕ  -- how many sleep
+  pub tokens : ℕ  -- tokens given to them and not taken. Each lets one go on
+  pub owed : ℕ  -- looks and wakes that passes owe
+  pub owed_to_all : ℕ  -- how often passes owe a token to each that sleeps
+
+abbrev pub sleepers : {T : Type 0} → Want → (s : RingState T) → Keeps s → Sleepers
+sleepers q s k = record {
+  asleep = total (sleeping q) s.views;
+  tokens = k.tokens q;
+  owed = total (owed q) s.views;
+  owed_to_all = total (closing q) s.views;
+}
+
+-- Where one sleeps and has no token, somebody owes a token to all. Or `goes_on` holds, and for each of the `goods` values
+-- (or free places) there is a token, or a look or a wake that somebody owes
+abbrev pub IsAwake : Type 0 → ℕ → Sleepers → Type 0
+IsAwake goes_on goods s = s.tokens < s.asleep → (0 < s.owed_to_all) ⊎ (goes_on × (goods ≤ s.tokens + s.owed))
 
 -- it is the number of a pass; and if the pass is out, this is true of its account
 abbrev pub IsOfPass : {T : Type 0} → RingState T → ℕ → (Account T → Type 0) → Type 0

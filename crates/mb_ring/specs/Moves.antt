@@ -1,13 +1,29 @@
 -- How a step changes a view.
-use Rattle.std.specs.Prelude.{None, Some, [], false, max, suc, true, ℕ, ◌+◌, ◌++◌, ◌-◌, ◌<◌, ◌∷◌, ◌≡◌, ◌⊎◌}
+use Rattle.std.specs.Prelude.{None, Some, [], false, max, suc, true, ℕ, ◌+◌, ◌++◌, ◌-◌, ◌<◌, ◌∷◌, ◌≡◌, ◌≤◌, ◌⊎◌}
 use Rattle.mb_segment.specs.History.{spot}
-use Rattle.mb_segment.specs.Moves.{Below, mark_in, or}
-use Rattle.mb_ring.specs.Types.{Duty, Member, Nothing, Reads, View, Writes}
+use Rattle.mb_segment.specs.Moves.{Below, mark_in, or, owes_all}
+use Rattle.mb_ring.specs.Types.{Duties, Duty, Member, Nothing, Reads, Room, Values, View, Want, Writes}
 use Rattle.mb_ring.specs.Passes.{blank, blind}
 
--- it owes other things, and is in the list more or less often. What a step does to a duty is told for a segment
-abbrev pub with_duty : {T : Type 0} → (Duty → Duty) → View T → View T
-with_duty f v = record v { duty = f v.duty }
+-- what is owed for one list changes. What a step does to a duty is told for a segment
+abbrev pub on : Want → (Duty → Duty) → Duties → Duties
+on Values f d = record d { values = f d.values }
+on Room f d = record d { room = f d.room }
+
+abbrev pub with_duty : {T : Type 0} → Want → (Duty → Duty) → View T → View T
+with_duty q f v = record v { duty = on q f v.duty }
+
+-- it owes a token to each that waits, for values and for room
+abbrev pub owes_both : {T : Type 0} → View T → View T
+owes_both v = with_duty Room owes_all (with_duty Values owes_all v)
+
+-- a sender that found the ring full sleeps, and has still to look whether it is cut
+abbrev pub dozes : Duty → Duty
+dozes d = record d { fresh = d.fresh - 1; asleep = d.asleep + 1; closing = d.closing + 1 }
+
+-- one in the list is about to leave a ring that is cut, and owes a token to each that waits
+abbrev pub done_with_all : Duty → Duty
+done_with_all d = record d { fresh = d.fresh - 1; leaving = d.leaving + 1; closing = d.closing + 1 }
 
 -- ---- positions
 -- it drew position p for the value x, which counts as sent
@@ -84,6 +100,16 @@ SawAllTaken v = Below v.sight.empty v.account.sent
 -- when it saw the ring full, all was counted as claimed that it had received. True of a pass that received nothing
 abbrev pub SawAllGot : {T : Type 0} → View T → Type 0
 SawAllGot v = (t : ℕ) → v.sight.full ≡ Some t → Below t v.account.got
+
+-- a call began with view v and has view w now. In it the pass saw the ring empty, and then at least as many were drawn as
+-- it had known of
+abbrev pub SawEmpty : {T : Type 0} → View T → View T → Type 0
+SawEmpty v w = SawAllTaken w × (v.known.drawn ≤ w.sight.empty) × (found_empty v < found_empty w)
+
+-- in it the pass saw the ring of n slots full, and then at least as many were claimed and drawn as it had known of
+abbrev pub SawFull : {T : Type 0} → ℕ → View T → View T → Type 0
+SawFull n v w = (t : ℕ) × (w.sight.full ≡ Some t) × SawAllGot w × (v.known.taken ≤ t) × (v.known.drawn ≤ t + n)
+    × (found_full v < found_full w)
 
 -- it is told that no value can come any more
 abbrev pub told : {T : Type 0} → View T → View T

@@ -1,7 +1,7 @@
 -- The first views, and how many passes are out.
 use Rattle.std.specs.Prelude.{List, None, [], false, ℕ, ◌+◌, ◌∷◌}
 use Rattle.mb_segment.specs.Passes.{if_hub, ignorant, no_duty, nothing_done, one_if_member}
-use Rattle.mb_ring.specs.Types.{Issuer, Member, Nothing, Sight, Spent, View}
+use Rattle.mb_ring.specs.Types.{Duties, Duty, Issuer, Member, Nothing, Room, Sight, Spent, Values, View, Want}
 
 -- the sum of a number over all views
 abbrev pub total : {T : Type 0} → (View T → ℕ) → List (View T) → ℕ
@@ -14,22 +14,37 @@ member v = one_if_member v.role
 abbrev pub out : {T : Type 0} → View T → ℕ
 out v = if_hub v.role v.out
 
--- in the list, with or without a token
-abbrev pub listed : {T : Type 0} → View T → ℕ
-listed v = v.duty.fresh + v.duty.asleep + v.duty.leaving
+-- the part of what is owed that is about one list
+abbrev pub part : Want → Duties → Duty
+part Values d = d.values
+part Room d = d.room
 
-abbrev pub sleeping : {T : Type 0} → View T → ℕ
-sleeping v = v.duty.asleep
+-- how often it stands in the list, with or without a token; and how many wakes and looks it owes. One that has just
+-- entered owes a look
+abbrev pub in_list : Duty → ℕ
+in_list d = d.fresh + d.asleep + d.leaving
 
--- debts: wakes, looks, also of who has just entered, and what closers owe
-abbrev pub owed : {T : Type 0} → View T → ℕ
-owed v = v.duty.wakes + v.duty.looks + v.duty.fresh + v.duty.closing
+abbrev pub debts : Duty → ℕ
+debts d = d.wakes + d.looks + d.fresh
 
-abbrev pub closing : {T : Type 0} → View T → ℕ
-closing v = v.duty.closing
+abbrev pub listed : {T : Type 0} → Want → View T → ℕ
+listed q v = in_list (part q v.duty)
+
+abbrev pub sleeping : {T : Type 0} → Want → View T → ℕ
+sleeping q v = (part q v.duty).asleep
+
+abbrev pub owed : {T : Type 0} → Want → View T → ℕ
+owed q v = debts (part q v.duty)
+
+-- it owes a token to each that sleeps
+abbrev pub closing : {T : Type 0} → Want → View T → ℕ
+closing q v = (part q v.duty).closing
 
 abbrev pub blind : Sight
 blind = record { low = 0; top = 0; room = None; ripe = None; cut = false; empty = 0; found = 0; full = None; refused = 0 }
+
+abbrev pub no_duties : Duties
+no_duties = record { values = no_duty; room = no_duty }
 
 -- a pass that did nothing, saw nothing and owes nothing
 abbrev pub blank : {T : Type 0} → View T
@@ -38,7 +53,7 @@ blank = record {
   account = nothing_done;
   known = ignorant;
   half = Nothing;
-  duty = no_duty;
+  duty = no_duties;
   sight = blind;
   over = false;
   out = 0;

@@ -1,17 +1,17 @@
 -- The rule of a ring: its words, slots and views agree with one history.
 -- Words: 0 how many positions are drawn, with the top bit once the ring is cut; 1 how many are claimed; 2 the list of
--- those that wait for a value: in its low half the tokens that were given and not taken, in its high half those without
--- a token; then one of each slot.
-use Rattle.std.specs.Prelude.{List, Option, Some, [], false, length, true, ℕ, ◌+◌, ◌*◌, ◌<◌, ◌∷◌, ◌≡◌, ◌≢◌, ◌≤◌}
+-- those that wait for values, and 3 of those that wait for room: in its low half the tokens that were given and not
+-- taken, in its high half those without a token; then one of each slot.
+use Rattle.std.specs.Prelude.{List, Option, Some, [], false, length, true, ℕ, ◌+◌, ◌-◌, ◌*◌, ◌<◌, ◌∷◌, ◌≡◌, ◌≢◌, ◌≤◌}
 use mathlib.Core.Option.{some}
 use lib.ListN.{get_elem?}
 use Rattle.atomic_table.specs.Table.{State}
 use Rattle.mb_segment.specs.History.{History, cuts_by, drawn, got_by, has_cut, sent_by, taken}
 use Rattle.mb_segment.specs.Heard.{AllHeed}
-use Rattle.mb_segment.specs.Passes.{Distinct, In, Match, no_duty}
+use Rattle.mb_segment.specs.Passes.{Distinct, In, Match}
 use Rattle.mb_segment.specs.Sleeping.{Quiet, Shut, free}
-use Rattle.mb_ring.specs.Types.{Issuer, Member, Nothing, Sight, Spent, View}
-use Rattle.mb_ring.specs.Passes.{closing, listed, member, out, owed, sleeping, total}
+use Rattle.mb_ring.specs.Types.{Issuer, Member, Nothing, Room, Sight, Spent, Values, View, Want}
+use Rattle.mb_ring.specs.Passes.{closing, listed, member, no_duties, out, owed, sleeping, total}
 use Rattle.mb_ring.specs.Slots.{HalfFits, Taken, Undrawn, Waiting, turn}
 
 -- the view of a pass that is out: its account is the history's, and it is neither the hub nor one that came back
@@ -49,7 +49,7 @@ pub record Fits {T : Type 0} (h : History T) (n : ℕ) (states : List ℕ) (cut 
   pub member : v.role ≡ Member → IsMember h hub roll i v
   pub hub_ : v.role ≡ Issuer → IsHub h hub roll i v
   pub back : v.role ≡ Spent → In i roll × (v.half ≡ Nothing) × (v.account.sent ≡ []) × (v.account.got ≡ [])
-  pub debt : (v.role ≡ Member → ⊥) → v.duty ≡ no_duty
+  pub debt : (v.role ≡ Member → ⊥) → v.duty ≡ no_duties
   pub half : HalfFits h n states i v.half
   pub sight : SightFits h n states cut v.sight
   pub heard : Heard h v
@@ -57,15 +57,27 @@ pub record Fits {T : Type 0} (h : History T) (n : ℕ) (states : List ℕ) (cut 
   -- a pass that was told so has loaded how many positions are claimed for good
   pub last : v.role ≡ Member → v.over ≡ true → drawn h ≤ v.sight.low
 
+-- as many values wait, or as many positions may be drawn before another is claimed: none once the ring is cut
+abbrev pub ready : {T : Type 0} → Want → History T → ℕ → ℕ → ℕ
+ready Values h n cut = length h.rest
+ready Room h n cut = free cut (n - length h.rest)
+
+-- the list counts its members, and both laws of sleep hold for it
+pub record IsAwaited {T : Type 0} (views : List (View T)) (q : Want) (goods open_ tokens waiting : ℕ) : Type 0 where
+  pub narrow : tokens < 4294967296
+  pub counted : total (listed q) views ≡ tokens + waiting
+  pub quiet : Quiet goods tokens (total (sleeping q) views) (total (owed q) views)
+  pub shut : Shut tokens (total (sleeping q) views) open_ (total (closing q) views)
+
 pub record Keeps {T : Type 0} (s : State (Option T) (View T)) : Type 0 where
   pub history : History T
   pub states : List ℕ
   pub size : ℕ
-  pub tokens : ℕ
-  pub waiting : ℕ
+  pub tokens : Want → ℕ
+  pub waiting : Want → ℕ
   pub cut : ℕ
-  pub words : s.words ≡ (drawn history + 9223372036854775808 * cut) ∷ taken history ∷ (tokens + 4294967296 * waiting) ∷ states
-  pub narrow : tokens < 4294967296
+  pub words : s.words ≡ (drawn history + 9223372036854775808 * cut) ∷ taken history
+      ∷ (tokens Values + 4294967296 * waiting Values) ∷ (tokens Room + 4294967296 * waiting Room) ∷ states
   pub sized : (length states ≡ size) × (length s.homes ≡ size) × (0 < size)
   pub small : drawn history ≤ 4611686018427387904
   pub cutter : cut ≡ cuts_by history.cutter
@@ -75,10 +87,7 @@ pub record Keeps {T : Type 0} (s : State (Option T) (View T)) : Type 0 where
   pub undrawn : Undrawn history size states s.homes
   pub waits : Waiting history s.views size states s.homes
   pub taken_ : Taken history s.views size states
-  -- the list counts its members, and both laws of sleep hold
-  pub counted : total listed s.views ≡ tokens + waiting
-  pub quiet : Quiet (length history.rest) tokens (total sleeping s.views) (total owed s.views)
-  pub shut : Shut tokens (total sleeping s.views) (free cut 1) (total closing s.views)
+  pub lists : (q : Want) → IsAwaited s.views q (ready q history size cut) (free cut 1) (tokens q) (waiting q)
   -- the number of the hub, which does nothing itself, and the numbers of the passes that came back
   pub hub : ℕ
   pub roll : List ℕ

@@ -44,7 +44,8 @@ IsTaken views n states k c =
 abbrev pub Taken : {T : Type 0} → History T → List (View T) → ℕ → List ℕ → Type 0
 Taken {T} h views n states = (k : ℕ) (c : Claim T) → get_elem? h.claims k ≡ some c → IsTaken views n states k c
 
--- what pass i has begun is so: it drew the position, which is not marked; or it claimed it, and it is not read
+-- what view i says that its pass has begun is true: the pass drew this position for this value, and has not marked it; or
+-- it claimed the position, which has this value, and has not read it
 abbrev pub HalfFits : {T : Type 0} → History T → ℕ → List ℕ → ℕ → Half T → Type 0
 HalfFits h n states i Nothing = Unit {0}
 HalfFits h n states i (Writes s) =

@@ -2,7 +2,7 @@
 use Rattle.std.specs.Prelude.{None, Option, Some, ℕ, ◌%◌, ◌*◌, ◌+◌, ◌<◌, ◌∷◌, ◌≡◌, ◌≢◌, ◌≤◌}
 use Rattle.atomic_table.specs.Table.{Me, Step, rest}
 use Rattle.mb_segment.specs.Moves.{owes_wake}
-use Rattle.mb_ring.specs.Types.{Duty, View}
+use Rattle.mb_ring.specs.Types.{Duty, Room, Values, View, Want}
 use Rattle.mb_ring.specs.Moves.{KnowsCut, KnowsOver, MaySend, MayTake, SawAllGot, SawAllTaken, drew, ended, marked_to, sees_cut, sees_drawn, sees_empty, sees_full, sees_mark}
 use Rattle.mb_ring.specs.Moves.{sees_room, sees_taken, told, took, with_duty}
 
@@ -21,23 +21,25 @@ always f st m r n = becomes m n (f m.0)
 abbrev pub exchanging : {T : Type 0} → (View T → View T) → Step (Option T) → Sat T → ℕ → Sat T → Type 0
 exchanging f st m r n = (r ≡ st.first → becomes m n (f m.0)) × (r ≢ st.first → becomes m n m.0)
 
--- the exchange that draws a position takes its slot, which is empty, and owes a wake. The pass was told nothing that
--- rules a draw out
-abbrev pub drawing : {T : Type 0} → T → Step (Option T) → Sat T → ℕ → Sat T → Type 0
-drawing x st m r n =
-    (r ≡ st.first → (n.0 ≡ with_duty owes_wake (drew st.first x m.0)) × (n.1 ≡ (st.first % st.slots, None) ∷ m.1) × MaySend m.0)
+-- the exchange that draws a position takes its slot, which is empty, and owes a wake to one that waits for values. The
+-- pass was told nothing that rules a draw out
+abbrev pub drawing : {T : Type 0} → (Duty → Duty) → T → Step (Option T) → Sat T → ℕ → Sat T → Type 0
+drawing f x st m r n =
+    (r ≡ st.first → (n.0 ≡ with_duty Room f (with_duty Values owes_wake (drew st.first x m.0)))
+    × (n.1 ≡ (st.first % st.slots, None) ∷ m.1) × MaySend m.0)
     × (r ≢ st.first → becomes m n m.0)
 
 -- the same for a value that the proof picked
-abbrev pub drawing_picked : {T : Type 0} → Option T → Step (Option T) → Sat T → ℕ → Sat T → Type 0
-drawing_picked {T} picked st m r n = (x : T) → picked ≡ Some x → drawing x st m r n
+abbrev pub drawing_picked : {T : Type 0} → (Duty → Duty) → Option T → Step (Option T) → Sat T → ℕ → Sat T → Type 0
+drawing_picked {T} f picked st m r n = (x : T) → picked ≡ Some x → drawing f x st m r n
 
--- the exchange that claims a position takes its slot, which has the value. The pass was not told that none can come.
--- If the exchange fails, the position was claimed before
+-- the exchange that claims a position takes its slot, which has the value, and owes a wake to one that waits for room.
+-- The pass was not told that no value can come. If the exchange fails, the position was claimed before
 abbrev pub claiming : {T : Type 0} → (Duty → Duty) → Step (Option T) → Sat T → ℕ → Sat T → Type 0
 claiming {T} f st m r n =
     (r ≡ st.first
-    → (x : T) × (n.0 ≡ with_duty f (took st.first x m.0)) × (n.1 ≡ (st.first % st.slots, Some x) ∷ m.1) × MayTake m.0)
+    → (x : T) × (n.0 ≡ with_duty Room owes_wake (with_duty Values f (took st.first x m.0)))
+    × (n.1 ≡ (st.first % st.slots, Some x) ∷ m.1) × MayTake m.0)
     × (r ≢ st.first → becomes m n (sees_taken r m.0) × (st.first < r))
 
 -- a store that gives the slot back
@@ -45,9 +47,9 @@ abbrev pub ending : {T : Type 0} → Step (Option T) → Sat T → ℕ → Sat T
 ending st m r n = (n.0 ≡ ended m.0) × (n.1 ≡ rest m.1)
 
 -- a load of the number drawn, before a draw. Once the pass was told that the ring is cut, or over, each finds it cut
-abbrev pub asking : {T : Type 0} → Step (Option T) → Sat T → ℕ → Sat T → Type 0
-asking st m r n =
-    (9223372036854775808 ≤ r → becomes m n (sees_cut m.0))
+abbrev pub asking : {T : Type 0} → (Duty → Duty) → Step (Option T) → Sat T → ℕ → Sat T → Type 0
+asking f st m r n =
+    (9223372036854775808 ≤ r → becomes m n (sees_cut (with_duty Room f m.0)))
     × (r < 9223372036854775808 → becomes m n (sees_drawn r m.0) × (m.0.known.drawn ≤ r))
     × (KnowsCut m.0 → 9223372036854775808 ≤ r)
 
@@ -60,17 +62,17 @@ seeing_room k st m r n =
 
 -- a load of the number claimed, after one of the number drawn: just as many values wait as there are slots, or the number
 -- drawn that was loaded does not tell so
-abbrev pub counting : {T : Type 0} → Step (Option T) → Sat T → ℕ → Sat T → Type 0
-counting st m r n =
-    (r + st.slots ≤ m.0.sight.top → becomes m n (sees_full r m.0) × SawAllGot n.0)
+abbrev pub counting : {T : Type 0} → (Duty → Duty) → Step (Option T) → Sat T → ℕ → Sat T → Type 0
+counting f st m r n =
+    (r + st.slots ≤ m.0.sight.top → becomes m n (sees_full r (with_duty Room f m.0)) × SawAllGot n.0)
     × (m.0.sight.top < r + st.slots → becomes m n (sees_taken r m.0)) × (r ≤ 4611686018427387904)
     × (m.0.known.taken ≤ r) × (m.0.known.drawn ≤ r + st.slots)
 
--- a load of the number drawn, before a cut
-abbrev pub seeing_cut : {T : Type 0} → Step (Option T) → Sat T → ℕ → Sat T → Type 0
-seeing_cut st m r n =
-    (9223372036854775808 ≤ r → becomes m n (sees_cut m.0))
-    × (r < 9223372036854775808 → becomes m n m.0)
+-- a load of the number drawn, which tells whether the ring is cut
+abbrev pub seeing_cut : {T : Type 0} → (Duty → Duty) → (Duty → Duty) → Step (Option T) → Sat T → ℕ → Sat T → Type 0
+seeing_cut cut open_ st m r n =
+    (9223372036854775808 ≤ r → becomes m n (sees_cut (with_duty Room cut m.0)))
+    × (r < 9223372036854775808 → becomes m n (with_duty Room open_ m.0))
 
 -- a load of the number claimed, which is not below the position seen marked last
 abbrev pub seeing_taken : {T : Type 0} → Step (Option T) → Sat T → ℕ → Sat T → Type 0
@@ -90,12 +92,17 @@ abbrev pub looking : {T : Type 0} → (Duty → Duty) → (Duty → Duty) → St
 looking none_yet none_ever st m r n =
     (m.0.sight.low < r % 9223372036854775808 → becomes m n (sees_drawn (r % 9223372036854775808) m.0))
     × (r % 9223372036854775808 ≤ m.0.sight.low → r < 9223372036854775808
-    → becomes m n (sees_empty r (with_duty none_yet m.0)) × SawAllTaken n.0 × (m.0.known.drawn ≤ r))
+    → becomes m n (sees_empty r (with_duty Values none_yet m.0)) × SawAllTaken n.0 × (m.0.known.drawn ≤ r))
     × (r % 9223372036854775808 ≤ m.0.sight.low → 9223372036854775808 ≤ r
-    → becomes m n (told (with_duty none_ever m.0)))
+    → becomes m n (told (with_duty Values none_ever m.0)))
     × (KnowsOver m.0 → (r % 9223372036854775808 ≤ m.0.sight.low) × (9223372036854775808 ≤ r))
 
 -- a load of the list: nobody waits without a token, or some do
-abbrev pub if_none_waits : {T : Type 0} → (Duty → Duty) → Step (Option T) → Sat T → ℕ → Sat T → Type 0
-if_none_waits f st m r n =
-    (r < 4294967296 → becomes m n (with_duty f m.0)) × (4294967296 ≤ r → becomes m n m.0)
+abbrev pub if_none_waits : {T : Type 0} → Want → (Duty → Duty) → Step (Option T) → Sat T → ℕ → Sat T → Type 0
+if_none_waits q f st m r n =
+    (r < 4294967296 → becomes m n (with_duty q f m.0)) × (4294967296 ≤ r → becomes m n m.0)
+
+-- the word of a list
+abbrev pub list_word : Want → ℕ
+list_word Values = 2
+list_word Room = 3

@@ -7,5 +7,8 @@ pub use Rattle.mb_segment.specs.declared.view.Known.{Known}
 pub use Rattle.mb_segment.specs.declared.view.Role.{Role}
 pub use Rattle.mb_segment.specs.declared.view.Role.TheVariants.{Issuer, Member, Spent}
 pub use Rattle.mb_segment.specs.declared.view.Spot.{Spot}
+pub use Rattle.mb_ring.specs.declared.view.Duties.{Duties}
 pub use Rattle.mb_ring.specs.declared.view.Sight.{Sight}
 pub use Rattle.mb_ring.specs.declared.view.View.{View}
+pub use Rattle.mb_ring.specs.declared.view.Want.{Want}
+pub use Rattle.mb_ring.specs.declared.view.Want.TheVariants.{Room, Values}

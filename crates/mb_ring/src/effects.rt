@@ -1,21 +1,5 @@
-//! The effects that steps have on what a pass owes (`specs/Moves.antt` of mb_segment).
+//! The effects that steps have on what a pass owes (`specs/Moves.antt`, here and of mb_segment).
 use crate::rule::Effect;
-
-pub struct OwesWake;
-
-impl Effect for OwesWake {
-    ghost use Rattle.mb_segment.specs.Moves.{owes_wake};
-
-    ghost of = { owes_wake };
-}
-
-pub struct OwesAll;
-
-impl Effect for OwesAll {
-    ghost use Rattle.mb_segment.specs.Moves.{owes_all};
-
-    ghost of = { owes_all };
-}
 
 pub struct HasWoken;
 
@@ -119,4 +103,20 @@ impl Effect for LeavesWithToken {
     ghost use Rattle.mb_segment.specs.Moves.{leaves_with_token};
 
     ghost of = { leaves_with_token };
+}
+
+pub struct Dozes;
+
+impl Effect for Dozes {
+    ghost use Rattle.mb_ring.specs.Moves.{dozes};
+
+    ghost of = { dozes };
+}
+
+pub struct DoneWithAll;
+
+impl Effect for DoneWithAll {
+    ghost use Rattle.mb_ring.specs.Moves.{done_with_all};
+
+    ghost of = { done_with_all };
 }

@@ -1,10 +1,10 @@
 //! The laws of a ring, over all histories. The functions compute nothing: their contracts are the laws.
-ghost use Rattle.std.specs.Prelude.{List, Some, [], length, true, ℕ, ◌+◌, ◌<◌, ◌∷◌, ◌≡◌, ◌≤◌, ◌⊎◌};
+ghost use Rattle.std.specs.Prelude.{List, Some, [], length, true, ℕ, ◌+◌, ◌-◌, ◌<◌, ◌∷◌, ◌≡◌, ◌≤◌, ◌⊎◌};
 ghost use mathlib.Core.Option.{some};
 ghost use lib.ListN.{get_elem?};
-ghost use Rattle.mb_ring.specs.{Claim, Entry, Has, IsCut, IsOfPass, IsPassOf, IsViewOf, Issuer, Keeps, Match, Member, RingState, Rises};
-ghost use Rattle.mb_ring.specs.{SawAllGot, SawAllTaken, View, all_entries, claimed_in, closing, drawn_in, got_by, listed, new_hub, owed};
-ghost use Rattle.mb_ring.specs.{Reads, Writes, sent_by, sleeping, spot, total};
+ghost use Rattle.mb_ring.specs.{Claim, Entry, Has, IsAwake, IsCut, IsOfPass, IsPassOf, IsViewOf, Issuer, Keeps, Match, Member, Reads, RingState};
+ghost use Rattle.mb_ring.specs.{Rises, Room, SawAllGot, SawAllTaken, Values, View, Want, Writes, all_entries, claimed_in, closing, drawn_in};
+ghost use Rattle.mb_ring.specs.{got_by, listed, new_hub, owed, sent_by, sleepers, sleeping, spot, total, waiting_in};
 
 /// All positions drawn stand in one order, and the first of them are those claimed. What a pass sent and what it
 /// received stand there in its own order. What is drawn or claimed next stands after all that was before.
@@ -106,16 +106,32 @@ pub fn one_cutter<T>()
         → (drawn_in s ≡ 0) × (IsCut s → ⊥) }
 {}
 
-/// Between any two steps: if a receiver sleeps without a token, no more values wait than there are tokens given and debts
-/// owed: looks, wakes, and what closers owe. And if no more will be drawn, a closer still owes tokens. Whoever owes or is
-/// in the list is a pass that is out.
+/// Between any two steps: if a receiver sleeps without a token, no more values wait than there are tokens given to
+/// receivers, and looks and wakes owed for values. If a sender sleeps without a token and the ring is open, no more places
+/// are free than there are tokens given to senders, and looks and wakes owed for room. If no more will be drawn, somebody
+/// still owes a token to each that sleeps. Whoever owes or is in a list is a pass that is out.
 pub fn no_wake_up_is_lost<T>()
-    ensures owed { (s : RingState T) (k : Keeps s) → 0 < total sleeping s.views
-        → claimed_in s < drawn_in s → 0 < k.tokens + total owed s.views }
-    ensures enough { (s : RingState T) (k : Keeps s) → k.tokens < total sleeping s.views
-        → drawn_in s ≤ claimed_in s + (k.tokens + total owed s.views) }
-    ensures over { (s : RingState T) (k : Keeps s) → k.tokens < total sleeping s.views
-        → IsCut s → 0 < total closing s.views }
-    ensures debtor { (s : RingState T) (k : Keeps s) (n : ℕ) (v : View T) → IsViewOf s n v
-        → 0 < owed v + listed v → v.role ≡ Member }
+    ensures values { (s : RingState T) (k : Keeps s)
+        → k.tokens Values < total (sleeping Values) s.views
+        → drawn_in s ≤ claimed_in s + (k.tokens Values + total (owed Values) s.views) }
+    ensures room { (s : RingState T) (k : Keeps s) → k.tokens Room < total (sleeping Room) s.views
+        → (IsCut s → ⊥) → claimed_in s + length s.homes
+        ≤ drawn_in s + (k.tokens Room + total (owed Room) s.views) }
+    ensures over { (s : RingState T) (k : Keeps s) (q : Want)
+        → k.tokens q < total (sleeping q) s.views → IsCut s → 0 < total (closing q) s.views }
+    ensures debtor { (s : RingState T) (k : Keeps s) (q : Want) (n : ℕ) (v : View T)
+        → IsViewOf s n v → 0 < owed q v + listed q v + closing q v → v.role ≡ Member }
+{}
+
+/// What the theorem of the channel asks of each moment: `EachBounded`, and of `EachMoment` the part `awake`. It is told of
+/// a ring with as many slots as the bound, to which no value comes back. `full`: at the load at which a draw finds so few
+/// claimed.
+pub fn each_bounded<T>()
+    ensures within { (s : RingState T) (k : Keeps s) → waiting_in s ≤ length s.homes }
+    ensures full { (s : RingState T) (k : Keeps s) (n : ℕ) (v : View T) → IsViewOf s n v
+        → claimed_in s + length s.homes ≤ v.sight.top → length s.homes ≤ waiting_in s }
+    ensures awake { (s : RingState T) (k : Keeps s)
+        → IsAwake (IsCut s → ⊥) (waiting_in s) (sleepers Values s k) }
+    ensures room { (s : RingState T) (k : Keeps s)
+        → IsAwake (IsCut s → ⊥) (length s.homes - waiting_in s) (sleepers Room s k) }
 {}

@@ -11,16 +11,20 @@
 //! # The calls that never wait
 //!
 //! - A sender draws a position for its value ([`Ring::draw`]), marks it ([`Ring::mark`]), and pays the wake that it then
-//!   owes ([`Ring::wake`]). Who cuts ([`Ring::cut`]) owes tokens to all that wait ([`Ring::wake_all`]).
-//! - A receiver looks ([`Ring::look`]), claims what it found ([`Ring::claim`]), and reads it ([`Ring::read`]).
-//! - If nothing is there, it enters the list ([`Ring::enter`]), and looks again ([`Ring::look_listed`],
-//!   [`Ring::claim_listed`]). If still nothing is there, it sleeps, until [`Ring::accept`] finds a token. Then it owes a
-//!   look. It may stop waiting ([`Ring::give_up`], [`Ring::go_unseen`], [`Ring::hand_on`]), and leaves the list
-//!   ([`Ring::leave`]).
+//!   owes to one that waits for values ([`Ring::wake`]). Who cuts ([`Ring::cut`]) owes tokens to all that wait
+//!   ([`Ring::wake_all`]).
+//! - A receiver looks ([`Ring::look`]), claims what it found ([`Ring::claim`]), reads it ([`Ring::read`]), and pays the
+//!   wake that it then owes to one that waits for room.
+//! - If nothing is there, a receiver enters the list [`ForValues`] ([`Ring::enter`]), and looks again
+//!   ([`Ring::look_listed`], [`Ring::claim_listed`]). If the ring is full, a sender enters the list [`ForRoom`], and draws
+//!   again ([`Ring::draw_listed`]). If still nothing is there, or no room, it sleeps, until [`Ring::accept`] finds a
+//!   token. Then it owes a look. It may stop waiting ([`Ring::give_up`], [`Ring::go_unseen`], [`Ring::hand_on`]), and
+//!   leaves the list ([`Ring::leave`]).
 //!
 //! # The calls that wait
 //!
-//! [`Ring::send`], [`Ring::receive`], [`Ring::receive_by`] and [`Ring::close`] are made of those.
+//! [`Ring::try_send`], [`Ring::send`], [`Ring::send_by`], [`Ring::receive`], [`Ring::receive_by`] and [`Ring::close`] are
+//! made of those.
 //!
 //! # What is kept
 //!
@@ -35,11 +39,15 @@ mod idle;
 pub mod laws;
 mod left;
 mod list;
+mod lists;
+mod receives;
 mod receiving;
 mod ring;
+mod room;
 mod rule;
 pub mod samples;
 mod sending;
+mod sends;
 #[cfg(test)]
 mod tests;
 mod view;
@@ -49,6 +57,7 @@ mod words;
 pub use answers::Draw;
 pub use idle::Idle;
 pub use left::Left;
+pub use lists::{AnyList, ForRoom, ForValues};
 pub use ring::{Hub, Pass, Ring};
-pub use view::{Sight, View};
-pub use waiting::NotSent;
+pub use sends::NotSent;
+pub use view::{Duties, Sight, View, Want};

@@ -1,14 +1,13 @@
 //! The calls of receivers.
 ghost use Rattle.std.specs.Prelude.{Some, [], false, true, ℕ, ◌%◌, ◌<◌, ◌∷◌, ◌≡◌, ◌≤◌};
-ghost use Rattle.mb_ring.specs.{Becomes, IsOver, IsStill, KnowsOver, MayTake, Member, Nothing, OfLeave, OfLook, OfRest, Reads};
-ghost use Rattle.mb_ring.specs.{SawAllTaken, bare, done, ended, enters, falls_asleep, held_by, leaves, leaves_with_token, looked, marked_to};
-ghost use Rattle.mb_ring.specs.{sees_empty, sees_mark, sees_taken, spot, told, took, view_in, wakes_up, with_duty};
+ghost use Rattle.mb_ring.specs.{Becomes, IsOver, IsStill, KnowsOver, MayTake, Member, Nothing, OfLook, Reads, Room, SawAllTaken, Values};
+ghost use Rattle.mb_ring.specs.{bare, done, ended, falls_asleep, held_by, looked, marked_to, owes_wake, sees_empty, sees_mark, sees_taken};
+ghost use Rattle.mb_ring.specs.{spot, told, took, view_in, with_duty};
 
-use crate::list::LISTED;
 use crate::ring::{Pass, Ring};
 use crate::rule::Ends;
 use crate::words::{CUT, word_of};
-use mb_segment::{Leave, Look, Rest};
+use mb_segment::Look;
 use std::alloc::Allocator;
 use std::marker::Brand;
 
@@ -30,9 +29,9 @@ impl<T: Drop, A: Allocator + Drop> Ring<T, A> {
             × ((view_in pass.old).known.taken ≤ (view_in pass.new).sight.low)
             × ((view_in pass.new).sight.low < (view_in pass.new).sight.top))
             ((n : ℕ) × (bare (view_in pass.new)
-            ≡ bare (sees_empty n (with_duty looked (view_in pass.old))))
+            ≡ bare (sees_empty n (with_duty Values looked (view_in pass.old))))
             × SawAllTaken (view_in pass.new) × ((view_in pass.old).known.drawn ≤ n))
-            (bare (view_in pass.new) ≡ bare (told (with_duty looked (view_in pass.old)))) }
+            (bare (view_in pass.new) ≡ bare (told (with_duty Values looked (view_in pass.old)))) }
         ensures told { KnowsOver (view_in pass.old) → IsOver result }
     {
         let first = self.load_taken(pass);
@@ -54,7 +53,7 @@ impl<T: Drop, A: Allocator + Drop> Ring<T, A> {
     /// to leave.
     pub fn look_listed(&self, pass: &mut Pass<T>) -> Look
         requires ring { pass.old.seat.table_id ≡ self.now.table.shared.table_id }
-        requires fresh { 0 < (view_in pass.old).duty.fresh }
+        requires fresh { 0 < (view_in pass.old).duty.values.fresh }
         ensures pass { IsStill pass.old pass.new }
         ensures held { held_by pass.new ≡ held_by pass.old }
         ensures mark { marked_to (view_in pass.old) ≤ marked_to (view_in pass.new) }
@@ -66,9 +65,9 @@ impl<T: Drop, A: Allocator + Drop> Ring<T, A> {
             × ((view_in pass.old).known.taken ≤ (view_in pass.new).sight.low)
             × ((view_in pass.new).sight.low < (view_in pass.new).sight.top))
             ((n : ℕ) × (bare (view_in pass.new)
-            ≡ bare (sees_empty n (with_duty falls_asleep (view_in pass.old))))
+            ≡ bare (sees_empty n (with_duty Values falls_asleep (view_in pass.old))))
             × SawAllTaken (view_in pass.new) × ((view_in pass.old).known.drawn ≤ n))
-            (bare (view_in pass.new) ≡ bare (told (with_duty done (view_in pass.old)))) }
+            (bare (view_in pass.new) ≡ bare (told (with_duty Values done (view_in pass.old)))) }
         ensures told { KnowsOver (view_in pass.old) → IsOver result }
     {
         let first = self.load_taken(pass);
@@ -86,8 +85,8 @@ impl<T: Drop, A: Allocator + Drop> Ring<T, A> {
         }
     }
 
-    /// Claims the position that a look found, and pays one look that is owed. The pass has to read the value. False only
-    /// if another pass had claimed it. One access.
+    /// Claims the position that a look found, and pays one look that is owed. The pass has to read the value, and then
+    /// owes a wake to one that waits for room. False only if another pass had claimed the position. One access.
     pub fn claim(&self, pass: &mut Pass<T>, at: u64) -> bool
         requires ring { pass.old.seat.table_id ≡ self.now.table.shared.table_id }
         requires member { (view_in pass.old).role ≡ Member }
@@ -96,8 +95,10 @@ impl<T: Drop, A: Allocator + Drop> Ring<T, A> {
         requires most { at ≤ 4611686018427387904 }
         ensures pass { IsStill pass.old pass.new }
         ensures claimed { result ≡ true → (x : T)
-            × (view_in pass.new ≡ with_duty looked (took at x (view_in pass.old)))
+            × (view_in pass.new
+            ≡ with_duty Room owes_wake (with_duty Values looked (took at x (view_in pass.old))))
             × (held_by pass.new ≡ (at % self.now.size, Some x) ∷ []) }
+        // It sees a number claimed above `at`.
         ensures missed { result ≡ false → (r : ℕ) × (at < r)
             × Becomes pass.old pass.new (sees_taken r (view_in pass.old)) }
         ensures may { result ≡ true → MayTake (view_in pass.old) }
@@ -109,14 +110,16 @@ impl<T: Drop, A: Allocator + Drop> Ring<T, A> {
     pub fn claim_listed(&self, pass: &mut Pass<T>, at: u64) -> bool
         requires ring { pass.old.seat.table_id ≡ self.now.table.shared.table_id }
         requires member { (view_in pass.old).role ≡ Member }
-        requires fresh { 0 < (view_in pass.old).duty.fresh }
+        requires fresh { 0 < (view_in pass.old).duty.values.fresh }
         requires idle { ((view_in pass.old).half ≡ Nothing) × (held_by pass.old ≡ []) }
         requires ripe { (view_in pass.old).sight.ripe ≡ Some at }
         requires most { at ≤ 4611686018427387904 }
         ensures pass { IsStill pass.old pass.new }
         ensures claimed { result ≡ true → (x : T)
-            × (view_in pass.new ≡ with_duty done (took at x (view_in pass.old)))
+            × (view_in pass.new
+            ≡ with_duty Room owes_wake (with_duty Values done (took at x (view_in pass.old))))
             × (held_by pass.new ≡ (at % self.now.size, Some x) ∷ []) }
+        // It sees a number claimed above `at`.
         ensures missed { result ≡ false → (r : ℕ) × (at < r)
             × Becomes pass.old pass.new (sees_taken r (view_in pass.old)) }
         ensures may { result ≡ true → MayTake (view_in pass.old) }
@@ -146,63 +149,5 @@ impl<T: Drop, A: Allocator + Drop> Ring<T, A> {
             Some(value) => value,
             None => unreachable!(),
         }
-    }
-
-    /// Enters the list of those that wait. The pass then owes a look. False if another pass changed the list, or 2^32 - 1
-    /// wait. One access at most.
-    pub fn enter(&self, pass: &mut Pass<T>) -> bool
-        requires ring { pass.old.seat.table_id ≡ self.now.table.shared.table_id }
-        requires member { (view_in pass.old).role ≡ Member }
-        ensures pass { IsStill pass.old pass.new }
-        ensures entered { result ≡ true
-            → Becomes pass.old pass.new (with_duty enters (view_in pass.old)) }
-        ensures missed { result ≡ false → Becomes pass.old pass.new (view_in pass.old) }
-    {
-        let seen = self.peek_list();
-        match seen.checked_add(LISTED) {
-            Some(new) => self.enter_from(pass, seen, new) == seen,
-            None => false,
-        }
-    }
-
-    /// A sleeper takes a token, if one is there. It owes a look then. One access at most.
-    pub fn accept(&self, pass: &mut Pass<T>) -> Rest
-        requires ring { pass.old.seat.table_id ≡ self.now.table.shared.table_id }
-        requires asleep { 0 < (view_in pass.old).duty.asleep }
-        ensures pass { IsStill pass.old pass.new }
-        ensures answer { OfRest result
-            (Becomes pass.old pass.new (with_duty wakes_up (view_in pass.old)))
-            (Becomes pass.old pass.new (view_in pass.old)) }
-    {
-        let seen = self.peek_list();
-        if seen % LISTED == 0 {
-            return Rest::Sleep;
-        }
-        if self.accept_from(pass, seen, seen - 1) == seen {
-            Rest::Woken
-        } else {
-            Rest::Again
-        }
-    }
-
-    /// Leaves the list. If each that waits has a token, the pass takes one with it, and owes a wake. One access at most.
-    pub fn leave(&self, pass: &mut Pass<T>) -> Leave
-        requires ring { pass.old.seat.table_id ≡ self.now.table.shared.table_id }
-        requires leaving { 0 < (view_in pass.old).duty.leaving }
-        ensures pass { IsStill pass.old pass.new }
-        ensures answer { OfLeave result
-            (Becomes pass.old pass.new (with_duty leaves (view_in pass.old)))
-            (Becomes pass.old pass.new (with_duty leaves_with_token (view_in pass.old)))
-            (Becomes pass.old pass.new (view_in pass.old)) }
-    {
-        let seen = self.peek_list();
-        if seen >= LISTED {
-            if self.leave_from(pass, seen, seen - LISTED) == seen {
-                return Leave::Left;
-            }
-        } else if seen > 0 && self.leave_with_token(pass, seen, seen - 1) == seen {
-            return Leave::Owes;
-        }
-        Leave::Again
     }
 }

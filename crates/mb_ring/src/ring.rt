@@ -13,7 +13,7 @@ pub struct Ring<T: Drop, A: Allocator + Drop = Global> {
     pub(crate) table: Table<Option<T>, View<T>, (), RingRule, A>,
     pub(crate) size: u64,
     ghost sized: { size ≡ table.shared.table_id.slots },
-    ghost wide: { table.shared.table_id.words ≡ size + 3 },
+    ghost wide: { table.shared.table_id.words ≡ size + 4 },
     ghost some: { 0 < size },
     ghost small: { size < 4294967296 },
 }
@@ -39,7 +39,7 @@ impl<T: Drop, A: Allocator + Clone + Drop> Ring<T, A> {
         ensures ring { IfOk result (λ r. r.1.seat.table_id ≡ r.0.table.shared.table_id) }
         ensures hub { IfOk result (λ r. hub_view r.1 ≡ new_hub) }
     {
-        let words = vec![in alloc.clone()?; 0u64; size as usize + 3]?;
+        let words = vec![in alloc.clone()?; 0u64; size as usize + 4]?;
         let (table, seat) = Table::vacant(alloc, words.as_slice(), size as usize, &())?;
         Ok((
             Ring {

@@ -1,4 +1,5 @@
 //! The rule of a ring, and what its steps tell.
+use crate::lists::AnyList;
 use crate::view::View;
 use atomic_table::{Join, Play, Split, TableRule};
 use std::marker::{Brand, PhantomData};
@@ -48,14 +49,14 @@ pub trait Effect {
 }
 
 /// The exchange that draws a position.
-pub struct Draws<X> {
-    of: PhantomData<X>,
+pub struct Draws<X, F> {
+    of: PhantomData<(X, F)>,
 }
 
-impl<T, X: Value<T>> Play<Option<T>, View<T>> for Draws<X> {
+impl<T, X: Value<T>, F: Effect> Play<Option<T>, View<T>> for Draws<X, F> {
     ghost use Rattle.mb_ring.specs.Steps.{drawing_picked};
 
-    ghost then = { drawing_picked X.value };
+    ghost then = { drawing_picked F.of X.value };
 }
 
 /// The exchange that claims a position.
@@ -82,44 +83,45 @@ impl<T> Play<Option<T>, View<T>> for Ends {
 pub struct Cuts;
 
 impl<T> Play<Option<T>, View<T>> for Cuts {
-    ghost use Rattle.mb_segment.specs.Moves.{owes_all};
-    ghost use Rattle.mb_ring.specs.Moves.{did_cut, with_duty};
+    ghost use Rattle.mb_ring.specs.Moves.{did_cut, owes_both};
     ghost use Rattle.mb_ring.specs.Steps.{exchanging};
 
-    ghost then = { exchanging (λ v. with_duty owes_all (did_cut v)) };
+    ghost then = { exchanging (λ v. owes_both (did_cut v)) };
 }
 
-/// Any other exchange.
-pub struct Exchanges<F> {
-    of: PhantomData<F>,
+/// An exchange on a list.
+pub struct Exchanges<Q, F> {
+    of: PhantomData<(Q, F)>,
 }
 
-impl<T, F: Effect> Play<Option<T>, View<T>> for Exchanges<F> {
+impl<T, Q: AnyList, F: Effect> Play<Option<T>, View<T>> for Exchanges<Q, F> {
     ghost use Rattle.mb_ring.specs.Moves.{with_duty};
     ghost use Rattle.mb_ring.specs.Steps.{exchanging};
 
-    ghost then = { exchanging (with_duty F.of) };
+    ghost then = { exchanging (with_duty Q.want F.of) };
 }
 
-/// A load that changes what is owed, whatever it finds.
-pub struct Always<F> {
-    of: PhantomData<F>,
+/// A load of a list that changes what is owed, whatever it finds.
+pub struct Always<Q, F> {
+    of: PhantomData<(Q, F)>,
 }
 
-impl<T, F: Effect> Play<Option<T>, View<T>> for Always<F> {
+impl<T, Q: AnyList, F: Effect> Play<Option<T>, View<T>> for Always<Q, F> {
     ghost use Rattle.mb_ring.specs.Moves.{with_duty};
     ghost use Rattle.mb_ring.specs.Steps.{always};
 
-    ghost then = { always (with_duty F.of) };
+    ghost then = { always (with_duty Q.want F.of) };
 }
 
 /// The load of the number drawn, before a draw.
-pub struct Asks;
+pub struct Asks<F> {
+    of: PhantomData<F>,
+}
 
-impl<T> Play<Option<T>, View<T>> for Asks {
+impl<T, F: Effect> Play<Option<T>, View<T>> for Asks<F> {
     ghost use Rattle.mb_ring.specs.Steps.{asking};
 
-    ghost then = { asking };
+    ghost then = { asking F.of };
 }
 
 /// The load of a slot's word, before a draw.
@@ -134,21 +136,25 @@ impl<T, P: Position> Play<Option<T>, View<T>> for SeesRoom<P> {
 }
 
 /// The load of the number claimed, after one of the number drawn.
-pub struct Counts;
-
-impl<T> Play<Option<T>, View<T>> for Counts {
-    ghost use Rattle.mb_ring.specs.Steps.{counting};
-
-    ghost then = { counting };
+pub struct Counts<F> {
+    of: PhantomData<F>,
 }
 
-/// The load of the number drawn, before a cut.
-pub struct SeesCut;
+impl<T, F: Effect> Play<Option<T>, View<T>> for Counts<F> {
+    ghost use Rattle.mb_ring.specs.Steps.{counting};
 
-impl<T> Play<Option<T>, View<T>> for SeesCut {
+    ghost then = { counting F.of };
+}
+
+/// The load of the number drawn that tells whether the ring is cut.
+pub struct SeesCut<F, G> {
+    of: PhantomData<(F, G)>,
+}
+
+impl<T, F: Effect, G: Effect> Play<Option<T>, View<T>> for SeesCut<F, G> {
     ghost use Rattle.mb_ring.specs.Steps.{seeing_cut};
 
-    ghost then = { seeing_cut };
+    ghost then = { seeing_cut F.of G.of };
 }
 
 /// The load of the number claimed.
@@ -183,14 +189,14 @@ impl<T, F: Effect, G: Effect> Play<Option<T>, View<T>> for Looks<F, G> {
 }
 
 /// The load of the list that may find that nobody waits without a token.
-pub struct NoneWaits<F> {
-    of: PhantomData<F>,
+pub struct NoneWaits<Q, F> {
+    of: PhantomData<(Q, F)>,
 }
 
-impl<T, F: Effect> Play<Option<T>, View<T>> for NoneWaits<F> {
+impl<T, Q: AnyList, F: Effect> Play<Option<T>, View<T>> for NoneWaits<Q, F> {
     ghost use Rattle.mb_ring.specs.Steps.{if_none_waits};
 
-    ghost then = { if_none_waits F.of };
+    ghost then = { if_none_waits Q.want F.of };
 }
 
 /// The hub issues a pass, and takes it back.

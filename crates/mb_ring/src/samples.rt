@@ -1,13 +1,14 @@
 //! Samples of the definitions: what they admit, and what only looks right. The functions compute nothing: their
 //! contracts are the samples.
 ghost use Rattle.std.specs.Prelude.{[], ◌∷◌, ◌≡◌};
-ghost use Rattle.mb_ring.specs.{IsCalm, IsCut, Keeps, KnowsCut, SawAllGot, SawAllTaken, Stand, drawn_in, drew, found_full};
+ghost use Rattle.mb_ring.specs.{IsAwake, IsCalm, IsCut, Keeps, KnowsCut, Room, SawAllGot, SawAllTaken, Stand, drawn_in, drew, found_full};
 ghost use Rattle.mb_ring.specs.{owes_wake, turn, with_duty};
-ghost use Rattle.mb_ring.specs.RingSamples.{boasting, cutter, forgotten, overfull, overslept, reused, saw_empty, saw_full, sent, two_slots, unused};
+ghost use Rattle.mb_ring.specs.RingSamples.{boasting, crowded, cutter, forgotten, one_asleep, overfull, overslept, reused, saw_empty, saw_full, sent, two_slots, unused};
 
 /// The rule. A new ring is admitted. Refused: one that is cut before a pass is issued, and one with more values than
 /// slots. Refused too: one whose slot is free again before its value was taken, and one with a send that did not happen.
-/// Refused as well: two in which a receiver sleeps and nobody owes anything. In one a value waits, the other is cut.
+/// Refused as well: two in which a receiver sleeps and nobody owes anything. In one a value waits, the other is cut. And
+/// one in which a sender sleeps beside a free slot, and nobody owes anything. One may sleep as long as there are no goods.
 pub fn sample_states()
     ensures new { Keeps (unused 0) }
     ensures cut { Keeps (unused 9223372036854775808) → ⊥ }
@@ -16,6 +17,9 @@ pub fn sample_states()
     ensures boasting { Keeps boasting → ⊥ }
     ensures overslept { Keeps overslept → ⊥ }
     ensures forgotten { Keeps forgotten → ⊥ }
+    ensures crowded { Keeps crowded → ⊥ }
+    ensures patient { IsAwake (Unit {0}) 0 one_asleep }
+    ensures beside { IsAwake (Unit {0}) 1 one_asleep → ⊥ }
     ensures open { (IsCut (unused 0) → ⊥) × (drawn_in (unused 9223372036854775809) ≡ 1) }
 {}
 
@@ -41,5 +45,5 @@ pub fn sample_views()
     ensures nobody { KnowsCut sent → ⊥ }
     ensures calm { IsCalm sent }
     ensures busy { IsCalm (drew 1 11 sent) → ⊥ }
-    ensures owes { IsCalm (with_duty owes_wake sent) → ⊥ }
+    ensures owes { IsCalm (with_duty Room owes_wake sent) → ⊥ }
 {}

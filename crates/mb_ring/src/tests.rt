@@ -1,43 +1,26 @@
 //! Threads over one ring: values by two senders to two receivers through few slots, a full ring, and the end.
 ghost use Rattle.std.specs.Prelude.{◌<◌, ◌≡◌};
 ghost use Rattle.std.specs.Thread.{IsSync};
-ghost use Rattle.mb_ring.specs.{IsFree, IsStill};
 
 use crate::idle::Idle;
 use crate::left::Left;
 use crate::ring::{Pass, Ring};
-use crate::waiting::NotSent;
+use crate::sends::NotSent;
 use mb_segment::Received;
 use std::alloc::{AllocError, Global};
 use std::sync::Wait;
 use std::test::Fail;
-use std::thread::{Threads, join, sleep, yield_now};
+use std::thread::{Threads, join, sleep};
 use std::time::{Clock, Duration, Instant};
 
-/// Sends one value, and yields while the ring is full. False if it was cut.
-fn send<R: Wait>(rt: &R, ring: &Ring<u64>, pass: &mut Pass<u64>, value: u64) -> bool
-    requires ring { pass.old.seat.table_id ≡ ring.now.table.shared.table_id }
-    requires free { IsFree pass.old }
-    ensures pass { IsStill pass.old pass.new }
-    ensures free { IsFree pass.new }
-{
-    for _ in rt.forever() {
-        match ring.send(rt, pass, value) {
-            Ok(()) => return true,
-            Err(NotSent::Full(_)) => yield_now(),
-            Err(_) => return false,
-        }
-    }
-    unreachable!()
-}
-
+/// Sends so many values, and sleeps while the ring is full.
 fn send_all<R: Wait>(rt: &R, ring: &Ring<u64>, idle: Idle<u64>, many: u64) -> Idle<u64>
     requires ring { idle.seat.table_id ≡ ring.now.table.shared.table_id }
     ensures ring { result.seat.table_id ≡ ring.now.table.shared.table_id }
 {
     let mut pass = idle.pass();
     for value in 0..many {
-        send(rt, ring, &mut pass, value);
+        drop(ring.send(rt, &mut pass, value));
     }
     pass.rest()
 }
@@ -200,13 +183,15 @@ fn the_end_has_what_two_receivers_left(rt: HostRuntime) -> Result<(), Fail> {
     Ok(())
 }
 
-/// One thread receives a value, which another sends after a pause.
+/// One thread sends two values through one slot, and another receives both. Each begins after a pause of its own. Returns
+/// how many were received.
 fn run_two<R: Threads + Wait + Clock + Sync>(
     rt: &R,
     alloc: Global,
-    pause: Duration,
+    before_send: Duration,
+    before_receive: Duration,
 ) -> Result<u64, AllocError> {
-    let (ring, mut hub) = Ring::<u64>::new(alloc, 4)?;
+    let (ring, mut hub) = Ring::<u64>::new(alloc, 1)?;
     let w = &ring;
     let a = w.issue(&mut hub).rest();
     let b = w.issue(&mut hub).rest();
@@ -214,12 +199,15 @@ fn run_two<R: Threads + Wait + Clock + Sync>(
         rt,
         move || -> (u64, u64, Idle<u64>)
             requires { a.seat.table_id ≡ w.now.table.shared.table_id }
-        { receive_all(rt, w, a, 1) },
+        {
+            sleep(rt, before_receive);
+            receive_all(rt, w, a, 2)
+        },
         move || -> Idle<u64>
             requires { b.seat.table_id ≡ w.now.table.shared.table_id }
         {
-            sleep(rt, pause);
-            send_all(rt, w, b, 1)
+            sleep(rt, before_send);
+            send_all(rt, w, b, 2)
         },
     );
     drop(x.2);
@@ -227,16 +215,25 @@ fn run_two<R: Threads + Wait + Clock + Sync>(
     Ok(x.0)
 }
 
-/// It hangs if who gives the token wakes no thread.
+/// It hangs if who gives a token to a receiver wakes no thread.
 #[test]
-fn a_sleeper_is_woken(rt: HostRuntime) -> Result<(), Fail> {
-    let count = run_two(&rt, rt.alloc(), Duration::from_millis(50))?;
-    assert!(rt; count == 1);
+fn a_receiver_that_sleeps_is_woken(rt: HostRuntime) -> Result<(), Fail> {
+    let count = run_two(&rt, rt.alloc(), Duration::from_millis(50), Duration::ZERO)?;
+    assert!(rt; count == 2);
+    Ok(())
+}
+
+/// It hangs if who gives a token to a sender wakes no thread.
+#[test]
+fn a_sender_that_sleeps_is_woken(rt: HostRuntime) -> Result<(), Fail> {
+    let count = run_two(&rt, rt.alloc(), Duration::ZERO, Duration::from_millis(50))?;
+    assert!(rt; count == 2);
     Ok(())
 }
 
 /// Two values fill two slots. A third finds the ring full, until one is received. Once it is cut, it takes no more, and it
-/// is over when all is received. A receive ends by its deadline.
+/// is over when all is received. A receive and a send
+/// end by their deadlines.
 #[test]
 fn a_full_ring_takes_no_more(rt: HostRuntime) -> Result<(), Fail> {
     let (ring, mut hub) = Ring::<u64>::new(rt.alloc(), 2)?;
@@ -244,11 +241,12 @@ fn a_full_ring_takes_no_more(rt: HostRuntime) -> Result<(), Fail> {
     let soon = now.checked_add(Duration::from_millis(20)).unwrap_or(now);
     let mut pass = ring.issue(&mut hub);
     let none = ring.receive_by(&rt, &mut pass, soon);
-    drop(ring.send(&rt, &mut pass, 1));
+    drop(ring.try_send(&rt, &mut pass, 1));
     drop(ring.send(&rt, &mut pass, 2));
-    let full = ring.send(&rt, &mut pass, 3);
+    let full = ring.try_send(&rt, &mut pass, 3);
+    let late = ring.send_by(&rt, &mut pass, 3, soon);
     let one = ring.receive(&rt, &mut pass);
-    let third = ring.send(&rt, &mut pass, 3);
+    let third = ring.send_by(&rt, &mut pass, 3, soon);
     ring.close(&rt, &mut pass);
     let closed = ring.send(&rt, &mut pass, 4);
     let two = ring.receive(&rt, &mut pass);
@@ -257,6 +255,7 @@ fn a_full_ring_takes_no_more(rt: HostRuntime) -> Result<(), Fail> {
     drop(pass.rest());
     assert!(rt; matches!(&none, Received::TimedOut));
     assert!(rt; matches!(&full, Err(NotSent::Full(3))) && third.is_ok());
+    assert!(rt; matches!(&late, Err(NotSent::Full(3))));
     assert!(rt; matches!(&closed, Err(NotSent::Closed(4))));
     assert!(rt; one == Some(1) && two == Some(2) && matches!(&three, Received::Value(3)));
     assert!(rt; over.is_none());

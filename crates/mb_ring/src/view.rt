@@ -25,14 +25,28 @@ pub struct Sight {
     pub refused: u64,
 }
 
+/// What one waits for. Each has a list of those that wait for it.
+pub enum Want {
+    /// Receivers wait for values.
+    Values,
+    /// Senders wait for room.
+    Room,
+}
+
+/// What a pass owes to those that wait for values, and how often it stands in their list; and the same for room.
+/// `closing`: it cut the ring. For room also: it sleeps, and has still to look whether the ring is cut.
+pub struct Duties {
+    pub values: Duty,
+    pub room: Duty,
+}
+
 /// What the pass or the hub did, has begun, owes and saw.
 pub struct View<T> {
     pub role: Role,
     pub account: Account<T>,
     pub known: Known,
     pub half: Half<T>,
-    /// What it owes, and how often it stands in the list of those that wait for a value. `closing`: it cut the ring.
-    pub duty: Duty,
+    pub duty: Duties,
     pub sight: Sight,
     /// It was told that no value can come any more.
     pub over: bool,

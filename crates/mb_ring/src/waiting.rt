@@ -1,51 +1,27 @@
-//! The calls that wait: one send, and one receive that sleeps until a value comes.
-ghost use Rattle.std.specs.Prelude.{IfErr, IfNone, IfOk, IfSome, Some, [], false, true, ℕ, ◌+◌, ◌++◌, ◌<◌, ◌∷◌, ◌≡◌, ◌≤◌, ◌⊎◌};
-ghost use Rattle.mb_ring.specs.{Becomes, IsCalm, IsFree, IsStill, MaySend, MayTake, Member, Nothing, OfFound, OfNotSent};
-ghost use Rattle.mb_ring.specs.{OfReceived, SawAllGot, SawAllTaken, blinded, calm, did_cut, done, ended, enters, falls_asleep};
-ghost use Rattle.mb_ring.specs.{found_empty, found_full};
-ghost use Rattle.mb_ring.specs.{gives_up, got_at, has_closed, has_woken, held_by, leaves, looked, marked_to, sees_cut};
-ghost use Rattle.mb_ring.specs.{sent_at, told, took, value_of, view_in, wakes_up, with_duty};
+//! What waits, and is the same for both lists: paying what is owed, and sleep.
+ghost use Rattle.std.specs.Prelude.{false, true, ◌<◌, ◌≡◌};
+ghost use Rattle.mb_ring.specs.{Becomes, IsStill, Member, enters, gives_up, has_closed, has_woken, leaves, part, view_in, wakes_up, with_duty};
 
-use crate::answers::Draw;
+use crate::lists::AnyList;
 use crate::ring::{Pass, Ring};
-use mb_segment::{Cut, Leave, Look, Received, Rest, Wake};
+use mb_segment::{Leave, Rest, Wake};
 use std::alloc::Allocator;
 use std::sync::Wait;
-use std::thread::yield_now;
 use std::time::{Clock, Duration, Instant};
-
-/// A value that could not be sent.
-#[derive(Debug, Drop)]
-pub enum NotSent<T> {
-    /// As many values waited as the ring has slots. [`Ring::draw`] says what is proved of this.
-    Full(T),
-    /// The ring was cut.
-    Closed(T),
-    /// 2^62 positions were drawn. No more will be.
-    Worn(T),
-}
-
-/// What was found by looks that wait for no sleep.
-#[derive(Drop)]
-enum Found<T> {
-    Value(T),
-    Empty,
-    Over,
-}
 
 impl<T: Drop, A: Allocator + Drop> Ring<T, A> {
     /// Pays one wake that is owed.
-    pub fn pay<R: Wait>(&self, rt: &R, pass: &mut Pass<T>)
+    pub fn pay<Q: AnyList, R: Wait>(&self, rt: &R, pass: &mut Pass<T>)
         requires ring { pass.old.seat.table_id ≡ self.now.table.shared.table_id }
-        requires owes { 0 < (view_in pass.old).duty.wakes }
+        requires owes { 0 < (part Q.want (view_in pass.old).duty).wakes }
         ensures pass { IsStill pass.old pass.new }
-        ensures paid { Becomes pass.old pass.new (with_duty has_woken (view_in pass.old)) }
+        ensures paid { Becomes pass.old pass.new (with_duty Q.want has_woken (view_in pass.old)) }
     {
         for _ in rt.forever() {
-            match self.wake(pass) {
+            match self.wake::<Q>(pass) {
                 Wake::Nobody => return,
                 Wake::One => {
-                    self.wake_thread();
+                    self.wake_thread::<Q>();
                     return;
                 }
                 Wake::Again => {}
@@ -54,158 +30,32 @@ impl<T: Drop, A: Allocator + Drop> Ring<T, A> {
         unreachable!()
     }
 
-    /// Gives a token to each that waits, for a pass that cut the ring.
-    pub fn pay_all<R: Wait>(&self, rt: &R, pass: &mut Pass<T>)
+    /// Gives a token to each that waits, for a pass that owes tokens to all.
+    pub fn pay_all<Q: AnyList, R: Wait>(&self, rt: &R, pass: &mut Pass<T>)
         requires ring { pass.old.seat.table_id ≡ self.now.table.shared.table_id }
-        requires owes { 0 < (view_in pass.old).duty.closing }
+        requires owes { 0 < (part Q.want (view_in pass.old).duty).closing }
         ensures pass { IsStill pass.old pass.new }
-        ensures paid { Becomes pass.old pass.new (with_duty has_closed (view_in pass.old)) }
+        ensures paid { Becomes pass.old pass.new (with_duty Q.want has_closed (view_in pass.old)) }
     {
         for _ in rt.forever() {
-            match self.wake_all(pass) {
+            match self.wake_all::<Q>(pass) {
                 Wake::Nobody => return,
-                Wake::One => self.wake_thread(),
+                Wake::One => self.wake_thread::<Q>(),
                 Wake::Again => {}
             }
         }
         unreachable!()
     }
 
-    /// Sends a value, and wakes a receiver for it. The error gives the value back. Yields while the next slot is claimed
-    /// and not read. A pass that was told that the ring is cut or over sends no more.
-    pub fn send<R: Wait>(&self, rt: &R, pass: &mut Pass<T>, value: T) -> Result<(), NotSent<T>>
-        requires ring { pass.old.seat.table_id ≡ self.now.table.shared.table_id }
-        requires free { IsFree pass.old }
-        ensures pass { IsStill pass.old pass.new }
-        ensures sent { IfOk result (λ _. (at : ℕ)
-            × (blinded (view_in pass.new) ≡ sent_at at value (calm (view_in pass.old)))
-            × MaySend (view_in pass.old)) }
-        ensures refused { IfErr result (λ e. (value_of e ≡ value)
-            × (blinded (view_in pass.new) ≡ calm (view_in pass.old))
-            × OfNotSent e ((t : ℕ) × ((view_in pass.new).sight.full ≡ Some t)
-            × SawAllGot (view_in pass.new) × ((view_in pass.old).known.taken ≤ t)
-            × ((view_in pass.old).known.drawn ≤ t + self.now.size)
-            × (found_full (view_in pass.old) < found_full (view_in pass.new)))
-            ((view_in pass.new).sight.cut ≡ true)) }
-        ensures free { IsFree pass.new }
-    {
-        for _ in rt.forever() {
-            match self.draw(pass, &value) {
-                Draw::At(at) => {
-                    self.mark(pass, at, value);
-                    self.pay(rt, pass);
-                    return Ok(());
-                }
-                Draw::Full => return Err(NotSent::Full(value)),
-                Draw::Closed => return Err(NotSent::Closed(value)),
-                Draw::Worn => return Err(NotSent::Worn(value)),
-                Draw::Yield => yield_now(),
-                Draw::Again => {}
-            }
-        }
-        unreachable!()
-    }
-
-    /// Cuts the ring, and wakes all that wait. No more positions will be drawn.
-    pub fn close<R: Wait>(&self, rt: &R, pass: &mut Pass<T>)
-        requires ring { pass.old.seat.table_id ≡ self.now.table.shared.table_id }
-        requires free { IsFree pass.old }
-        ensures pass { IsStill pass.old pass.new }
-        ensures cut { Becomes pass.old pass.new (sees_cut (view_in pass.old))
-            ⊎ Becomes pass.old pass.new (did_cut (view_in pass.old)) }
-    {
-        for _ in rt.forever() {
-            match self.cut(pass) {
-                Cut::Done => {
-                    self.pay_all(rt, pass);
-                    return;
-                }
-                Cut::Was => return,
-                Cut::Again => {}
-            }
-        }
-        unreachable!()
-    }
-
-    /// Takes the first value, or finds that none is there. Yields while the next position is drawn and not marked.
-    fn find<R: Wait>(&self, rt: &R, pass: &mut Pass<T>) -> Found<T>
-        requires ring { pass.old.seat.table_id ≡ self.now.table.shared.table_id }
-        requires member { (view_in pass.old).role ≡ Member }
-        requires idle { ((view_in pass.old).half ≡ Nothing) × (held_by pass.old ≡ []) }
-        ensures pass { IsStill pass.old pass.new }
-        ensures held { held_by pass.new ≡ [] }
-        ensures mark { marked_to (view_in pass.old) ≤ marked_to (view_in pass.new) }
-        ensures found { found_empty (view_in pass.old) ≤ found_empty (view_in pass.new) }
-        ensures answer { OfFound result
-            (λ x. (at : ℕ)
-            × (blinded (view_in pass.new)
-            ≡ got_at at x (with_duty looked (blinded (view_in pass.old))))
-            × MayTake (view_in pass.old))
-            ((blinded (view_in pass.new) ≡ with_duty looked (blinded (view_in pass.old)))
-            × SawAllTaken (view_in pass.new)
-            × ((view_in pass.old).known.drawn ≤ (view_in pass.new).sight.empty)
-            × (found_empty (view_in pass.old) < found_empty (view_in pass.new)))
-            (blinded (view_in pass.new) ≡ told (with_duty looked (blinded (view_in pass.old)))) }
-    {
-        for _ in rt.forever() {
-            match self.look(pass) {
-                Look::Ready(at) => {
-                    if self.claim(pass, at) {
-                        return Found::Value(self.read(pass, at));
-                    }
-                }
-                Look::Yield => yield_now(),
-                Look::Empty => return Found::Empty,
-                Look::Over => return Found::Over,
-            }
-        }
-        unreachable!()
-    }
-
-    /// The same for one in the list. It sleeps from then on if nothing is there yet, and else is about to leave.
-    fn find_listed<R: Wait>(&self, rt: &R, pass: &mut Pass<T>) -> Found<T>
-        requires ring { pass.old.seat.table_id ≡ self.now.table.shared.table_id }
-        requires member { (view_in pass.old).role ≡ Member }
-        requires fresh { 0 < (view_in pass.old).duty.fresh }
-        requires idle { ((view_in pass.old).half ≡ Nothing) × (held_by pass.old ≡ []) }
-        ensures pass { IsStill pass.old pass.new }
-        ensures held { held_by pass.new ≡ [] }
-        ensures mark { marked_to (view_in pass.old) ≤ marked_to (view_in pass.new) }
-        ensures found { found_empty (view_in pass.old) ≤ found_empty (view_in pass.new) }
-        ensures answer { OfFound result
-            (λ x. (at : ℕ)
-            × (blinded (view_in pass.new)
-            ≡ got_at at x (with_duty done (blinded (view_in pass.old))))
-            × MayTake (view_in pass.old))
-            ((blinded (view_in pass.new) ≡ with_duty falls_asleep (blinded (view_in pass.old)))
-            × SawAllTaken (view_in pass.new)
-            × ((view_in pass.old).known.drawn ≤ (view_in pass.new).sight.empty)
-            × (found_empty (view_in pass.old) < found_empty (view_in pass.new)))
-            (blinded (view_in pass.new) ≡ told (with_duty done (blinded (view_in pass.old)))) }
-    {
-        for _ in rt.forever() {
-            match self.look_listed(pass) {
-                Look::Ready(at) => {
-                    if self.claim_listed(pass, at) {
-                        return Found::Value(self.read(pass, at));
-                    }
-                }
-                Look::Yield => yield_now(),
-                Look::Empty => return Found::Empty,
-                Look::Over => return Found::Over,
-            }
-        }
-        unreachable!()
-    }
-
-    fn enter_list<R: Wait>(&self, rt: &R, pass: &mut Pass<T>)
+    /// Enters the list. The pass owes a look then.
+    pub(crate) fn enter_list<Q: AnyList, R: Wait>(&self, rt: &R, pass: &mut Pass<T>)
         requires ring { pass.old.seat.table_id ≡ self.now.table.shared.table_id }
         requires member { (view_in pass.old).role ≡ Member }
         ensures pass { IsStill pass.old pass.new }
-        ensures entered { Becomes pass.old pass.new (with_duty enters (view_in pass.old)) }
+        ensures entered { Becomes pass.old pass.new (with_duty Q.want enters (view_in pass.old)) }
     {
         for _ in rt.forever() {
-            if self.enter(pass) {
+            if self.enter::<Q>(pass) {
                 return;
             }
         }
@@ -213,17 +63,18 @@ impl<T: Drop, A: Allocator + Drop> Ring<T, A> {
     }
 
     /// Leaves the list. If the pass was given a token, it wakes another in its place.
-    fn leave_list<R: Wait>(&self, rt: &R, pass: &mut Pass<T>)
+    #[tactic(auto, using(crate::proofs::ListMoves::on_leaves, crate::proofs::ListMoves::owes_after))]
+    pub(crate) fn leave_list<Q: AnyList, R: Wait>(&self, rt: &R, pass: &mut Pass<T>)
         requires ring { pass.old.seat.table_id ≡ self.now.table.shared.table_id }
-        requires leaving { 0 < (view_in pass.old).duty.leaving }
+        requires leaving { 0 < (part Q.want (view_in pass.old).duty).leaving }
         ensures pass { IsStill pass.old pass.new }
-        ensures left { Becomes pass.old pass.new (with_duty leaves (view_in pass.old)) }
+        ensures left { Becomes pass.old pass.new (with_duty Q.want leaves (view_in pass.old)) }
     {
         for _ in rt.forever() {
-            match self.leave(pass) {
+            match self.leave::<Q>(pass) {
                 Leave::Left => return,
                 Leave::Owes => {
-                    self.pay(rt, pass);
+                    self.pay::<Q, R>(rt, pass);
                     return;
                 }
                 Leave::Again => {}
@@ -233,16 +84,16 @@ impl<T: Drop, A: Allocator + Drop> Ring<T, A> {
     }
 
     /// Sleeps until it has a token. It owes a look then.
-    fn sleep<R: Wait>(&self, rt: &R, pass: &mut Pass<T>)
+    pub(crate) fn sleep<Q: AnyList, R: Wait>(&self, rt: &R, pass: &mut Pass<T>)
         requires ring { pass.old.seat.table_id ≡ self.now.table.shared.table_id }
-        requires asleep { 0 < (view_in pass.old).duty.asleep }
+        requires asleep { 0 < (part Q.want (view_in pass.old).duty).asleep }
         ensures pass { IsStill pass.old pass.new }
-        ensures woken { Becomes pass.old pass.new (with_duty wakes_up (view_in pass.old)) }
+        ensures woken { Becomes pass.old pass.new (with_duty Q.want wakes_up (view_in pass.old)) }
     {
         for _ in rt.forever() {
-            match self.accept(pass) {
+            match self.accept::<Q>(pass) {
                 Rest::Woken => return,
-                Rest::Sleep => self.park(rt, pass),
+                Rest::Sleep => self.park::<Q, R>(rt, pass),
                 Rest::Again => {}
             }
         }
@@ -250,122 +101,32 @@ impl<T: Drop, A: Allocator + Drop> Ring<T, A> {
     }
 
     /// The same until a deadline. If that came first, the answer is false, and the pass is about to leave.
-    fn sleep_by<R: Wait + Clock>(&self, rt: &R, pass: &mut Pass<T>, deadline: Instant) -> bool
-        requires ring { pass.old.seat.table_id ≡ self.now.table.shared.table_id }
-        requires asleep { 0 < (view_in pass.old).duty.asleep }
-        ensures pass { IsStill pass.old pass.new }
-        ensures woken { result ≡ true
-            → Becomes pass.old pass.new (with_duty wakes_up (view_in pass.old)) }
-        ensures late { result ≡ false
-            → Becomes pass.old pass.new (with_duty gives_up (view_in pass.old)) }
-    {
-        for _ in rt.forever() {
-            match self.accept(pass) {
-                Rest::Woken => return true,
-                Rest::Sleep => {
-                    let most = left_until(rt, deadline);
-                    if most.is_zero() {
-                        self.give_up(pass);
-                        return false;
-                    }
-                    self.park_for(rt, pass, most);
-                }
-                Rest::Again => {}
-            }
-        }
-        unreachable!()
-    }
-
-    /// Receives the first value, and sleeps until there is one. `None` only if none can come any more, and no
-    /// later call gives a value then.
-    pub fn receive<R: Wait>(&self, rt: &R, pass: &mut Pass<T>) -> Option<T>
-        requires ring { pass.old.seat.table_id ≡ self.now.table.shared.table_id }
-        requires free { IsFree pass.old }
-        ensures pass { IsStill pass.old pass.new }
-        ensures received { IfSome result (λ x. (at : ℕ)
-            × (blinded (view_in pass.new) ≡ got_at at x (calm (view_in pass.old)))
-            × MayTake (view_in pass.old)) }
-        ensures over { IfNone result
-            (blinded (view_in pass.new) ≡ told (calm (view_in pass.old))) }
-        ensures free { IsFree pass.new }
-    {
-        for _ in rt.forever() {
-            match self.find(rt, pass) {
-                Found::Value(value) => return Some(value),
-                Found::Over => return None,
-                Found::Empty => {}
-            }
-            self.enter_list(rt, pass);
-            match self.find_listed(rt, pass) {
-                Found::Value(value) => {
-                    self.leave_list(rt, pass);
-                    return Some(value);
-                }
-                Found::Over => {
-                    self.leave_list(rt, pass);
-                    return None;
-                }
-                Found::Empty => {}
-            }
-            self.sleep(rt, pass);
-            match self.find(rt, pass) {
-                Found::Value(value) => return Some(value),
-                Found::Over => return None,
-                Found::Empty => {}
-            }
-        }
-        unreachable!()
-    }
-
-    /// The same until a deadline. While the next position is drawn and not marked, it goes on past the deadline.
-    pub fn receive_by<R: Wait + Clock>(
+    pub(crate) fn sleep_by<Q: AnyList, R: Wait + Clock>(
         &self,
         rt: &R,
         pass: &mut Pass<T>,
         deadline: Instant,
-    ) -> Received<T>
+    ) -> bool
         requires ring { pass.old.seat.table_id ≡ self.now.table.shared.table_id }
-        requires free { IsFree pass.old }
+        requires asleep { 0 < (part Q.want (view_in pass.old).duty).asleep }
         ensures pass { IsStill pass.old pass.new }
-        ensures answer { OfReceived result
-            (λ x. (at : ℕ) × (blinded (view_in pass.new) ≡ got_at at x (calm (view_in pass.old)))
-            × MayTake (view_in pass.old))
-            (blinded (view_in pass.new) ≡ told (calm (view_in pass.old)))
-            ((blinded (view_in pass.new) ≡ calm (view_in pass.old))
-            × SawAllTaken (view_in pass.new)
-            × ((view_in pass.old).known.drawn ≤ (view_in pass.new).sight.empty)
-            × (found_empty (view_in pass.old) < found_empty (view_in pass.new))) }
-        ensures mark { marked_to (view_in pass.old) ≤ marked_to (view_in pass.new) }
-        ensures found { found_empty (view_in pass.old) ≤ found_empty (view_in pass.new) }
-        ensures free { IsFree pass.new }
+        ensures woken { result ≡ true
+            → Becomes pass.old pass.new (with_duty Q.want wakes_up (view_in pass.old)) }
+        ensures late { result ≡ false
+            → Becomes pass.old pass.new (with_duty Q.want gives_up (view_in pass.old)) }
     {
         for _ in rt.forever() {
-            // A value that is there is taken without the list.
-            match self.find(rt, pass) {
-                Found::Value(value) => return Received::Value(value),
-                Found::Over => return Received::Over,
-                Found::Empty => {}
-            }
-            self.enter_list(rt, pass);
-            match self.find_listed(rt, pass) {
-                Found::Value(value) => {
-                    self.leave_list(rt, pass);
-                    return Received::Value(value);
+            match self.accept::<Q>(pass) {
+                Rest::Woken => return true,
+                Rest::Sleep => {
+                    let most = left_until(rt, deadline);
+                    if most.is_zero() {
+                        self.give_up::<Q>(pass);
+                        return false;
+                    }
+                    self.park_for::<Q, R>(rt, pass, most);
                 }
-                Found::Over => {
-                    self.leave_list(rt, pass);
-                    return Received::Over;
-                }
-                Found::Empty => {}
-            }
-            if !self.sleep_by(rt, pass, deadline) {
-                self.leave_list(rt, pass);
-                return Received::TimedOut;
-            }
-            match self.find(rt, pass) {
-                Found::Value(value) => return Received::Value(value),
-                Found::Over => return Received::Over,
-                Found::Empty => {}
+                Rest::Again => {}
             }
         }
         unreachable!()

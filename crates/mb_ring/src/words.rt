@@ -1,11 +1,10 @@
 //! Each atomic step on the numbers drawn and claimed, and on the words of the slots.
 ghost use Rattle.std.specs.Prelude.{List, None, Option, Some, [], ℕ, ◌%◌, ◌*◌, ◌+◌, ◌<◌, ◌∷◌, ◌≡◌, ◌≢◌, ◌≤◌};
-ghost use Rattle.mb_ring.specs.{Becomes, IsStill, KnowsCut, KnowsOver, MaySend, MayTake, Member, Nothing, SawAllGot, SawAllTaken};
-ghost use Rattle.mb_ring.specs.{did_cut, done};
-ghost use Rattle.mb_ring.specs.{drew, falls_asleep, held_by, looked, marked_to, owes_all, owes_wake, sees_cut, sees_drawn};
-ghost use Rattle.mb_ring.specs.{sees_empty, sees_full, sees_mark, sees_room, sees_taken, told, took, view_in, with_duty};
+ghost use Rattle.mb_ring.specs.{Becomes, IsStill, KnowsCut, KnowsOver, MaySend, MayTake, Member, Nothing, Room, SawAllGot, SawAllTaken, Values};
+ghost use Rattle.mb_ring.specs.{did_cut, done, done_with_all, dozes, drew, falls_asleep, gives_up, has_closed, held_by, looked, marked_to, owes_both};
+ghost use Rattle.mb_ring.specs.{owes_wake, sees_cut, sees_drawn, sees_empty, sees_full, sees_mark, sees_room, sees_taken, told, took, view_in, with_duty};
 
-use crate::effects::{Done, FallsAsleep, Looked};
+use crate::effects::{Done, DoneWithAll, Dozes, FallsAsleep, GivesUp, HasClosed, Looked, Same};
 use crate::ring::{Pass, Ring};
 use crate::rule::{
     Asks, Claims, Counts, Cuts, Draws, Looks, Position, SeesCut, SeesMark, SeesRoom, SeesTaken,
@@ -27,9 +26,9 @@ pub(crate) const MOST: u64 = 4611686018427387904;
 /// The word of a slot.
 pub(crate) fn word_of(slot: u64) -> usize
     requires { slot < 4294967296 }
-    ensures { result ≡ slot + 3 }
+    ensures { result ≡ slot + 4 }
 {
-    slot as usize + 3
+    slot as usize + 4
 }
 
 impl<T: Drop, A: Allocator + Drop> Ring<T, A> {
@@ -43,18 +42,39 @@ impl<T: Drop, A: Allocator + Drop> Ring<T, A> {
     }
 
     // ---- draws
-    /// Looks how many positions are drawn, before a draw.
+    /// Looks how many positions are drawn, before a draw. If the ring is cut, that pays a look for room.
     pub(crate) fn load_to_draw(&self, pass: &mut Pass<T>) -> u64
         requires ring { pass.old.seat.table_id ≡ self.now.table.shared.table_id }
         ensures pass { IsStill pass.old pass.new }
         ensures cut { 9223372036854775808 ≤ result
-            → Becomes pass.old pass.new (sees_cut (view_in pass.old)) }
+            → Becomes pass.old pass.new (sees_cut (with_duty Room looked (view_in pass.old))) }
         ensures open { result < 9223372036854775808
             → Becomes pass.old pass.new (sees_drawn result (view_in pass.old))
             × ((view_in pass.old).known.drawn ≤ result) }
         ensures told { KnowsCut (view_in pass.old) → 9223372036854775808 ≤ result }
     {
-        self.table.shared.load::<Asks>(&mut pass.seat, DRAWN)
+        self.table
+            .shared
+            .load::<Asks<Looked>>(&mut pass.seat, DRAWN)
+    }
+
+    /// The same for one in the list. If the ring is cut, it is about to leave, and owes a token to each that waits for
+    /// room.
+    pub(crate) fn load_to_draw_listed(&self, pass: &mut Pass<T>) -> u64
+        requires ring { pass.old.seat.table_id ≡ self.now.table.shared.table_id }
+        requires fresh { 0 < (view_in pass.old).duty.room.fresh }
+        ensures pass { IsStill pass.old pass.new }
+        ensures cut { 9223372036854775808 ≤ result
+            → Becomes pass.old pass.new
+            (sees_cut (with_duty Room done_with_all (view_in pass.old))) }
+        ensures open { result < 9223372036854775808
+            → Becomes pass.old pass.new (sees_drawn result (view_in pass.old))
+            × ((view_in pass.old).known.drawn ≤ result) }
+        ensures told { KnowsCut (view_in pass.old) → 9223372036854775808 ≤ result }
+    {
+        self.table
+            .shared
+            .load::<Asks<DoneWithAll>>(&mut pass.seat, DRAWN)
     }
 
     /// Looks whether the slot is free for this position.
@@ -74,12 +94,14 @@ impl<T: Drop, A: Allocator + Drop> Ring<T, A> {
             .load::<SeesRoom<P>>(&mut pass.seat, word_of(slot))
     }
 
-    /// Looks how many positions are claimed, after a look how many are drawn.
+    /// Looks how many positions are claimed, after a look how many are drawn. If the ring is full, that pays a look for
+    /// room.
     pub(crate) fn load_count(&self, pass: &mut Pass<T>) -> u64
         requires ring { pass.old.seat.table_id ≡ self.now.table.shared.table_id }
         ensures pass { IsStill pass.old pass.new }
         ensures full { result + self.now.size ≤ (view_in pass.old).sight.top
-            → Becomes pass.old pass.new (sees_full result (view_in pass.old))
+            → Becomes pass.old pass.new
+            (sees_full result (with_duty Room looked (view_in pass.old)))
             × SawAllGot (view_in pass.new) }
         ensures room { (view_in pass.old).sight.top < result + self.now.size
             → Becomes pass.old pass.new (sees_taken result (view_in pass.old)) }
@@ -87,7 +109,44 @@ impl<T: Drop, A: Allocator + Drop> Ring<T, A> {
         ensures known { ((view_in pass.old).known.taken ≤ result)
             × ((view_in pass.old).known.drawn ≤ result + self.now.size) }
     {
-        self.table.shared.load::<Counts>(&mut pass.seat, TAKEN)
+        self.table
+            .shared
+            .load::<Counts<Looked>>(&mut pass.seat, TAKEN)
+    }
+
+    /// The same for one in the list. If the ring is full, it sleeps from then on, but has still to look whether it is cut.
+    pub(crate) fn load_count_listed(&self, pass: &mut Pass<T>) -> u64
+        requires ring { pass.old.seat.table_id ≡ self.now.table.shared.table_id }
+        requires fresh { 0 < (view_in pass.old).duty.room.fresh }
+        ensures pass { IsStill pass.old pass.new }
+        ensures full { result + self.now.size ≤ (view_in pass.old).sight.top
+            → Becomes pass.old pass.new (sees_full result (with_duty Room dozes (view_in pass.old)))
+            × SawAllGot (view_in pass.new) }
+        ensures room { (view_in pass.old).sight.top < result + self.now.size
+            → Becomes pass.old pass.new (sees_taken result (view_in pass.old)) }
+        ensures most { result ≤ 4611686018427387904 }
+        ensures known { ((view_in pass.old).known.taken ≤ result)
+            × ((view_in pass.old).known.drawn ≤ result + self.now.size) }
+    {
+        self.table
+            .shared
+            .load::<Counts<Dozes>>(&mut pass.seat, TAKEN)
+    }
+
+    /// One that fell asleep looks whether the ring is cut. If so, it is about to leave.
+    pub(crate) fn load_before_sleep(&self, pass: &mut Pass<T>) -> u64
+        requires ring { pass.old.seat.table_id ≡ self.now.table.shared.table_id }
+        requires asleep { 0 < (view_in pass.old).duty.room.asleep }
+        requires owes { 0 < (view_in pass.old).duty.room.closing }
+        ensures pass { IsStill pass.old pass.new }
+        ensures cut { 9223372036854775808 ≤ result
+            → Becomes pass.old pass.new (sees_cut (with_duty Room gives_up (view_in pass.old))) }
+        ensures open { result < 9223372036854775808
+            → Becomes pass.old pass.new (with_duty Room has_closed (view_in pass.old)) }
+    {
+        self.table
+            .shared
+            .load::<SeesCut<GivesUp, HasClosed>>(&mut pass.seat, DRAWN)
     }
 
     /// Draws the position, if it is still the next one. Its slot is then out with the pass.
@@ -107,7 +166,8 @@ impl<T: Drop, A: Allocator + Drop> Ring<T, A> {
         requires new { new ≡ at + 1 }
         ensures pass { IsStill pass.old pass.new }
         ensures drawn { result ≡ at → (view_in pass.new
-            ≡ with_duty owes_wake (drew at value.now (view_in pass.old)))
+            ≡ with_duty Room looked
+            (with_duty Values owes_wake (drew at value.now (view_in pass.old))))
             × (held_by pass.new ≡ (at % self.now.size, None) ∷ held_by pass.old)
             × MaySend (view_in pass.old) }
         ensures missed { result ≢ at → Becomes pass.old pass.new (view_in pass.old) }
@@ -115,7 +175,37 @@ impl<T: Drop, A: Allocator + Drop> Ring<T, A> {
         let _ = value;
         self.table
             .shared
-            .compare_exchange::<Draws<X>>(&mut pass.seat, DRAWN, at, new)
+            .compare_exchange::<Draws<X, Looked>>(&mut pass.seat, DRAWN, at, new)
+    }
+
+    /// The same for one in the list, which is then about to leave.
+    pub(crate) fn draw_next_listed<X: Value<T>>(
+        &self,
+        pass: &mut Pass<T>,
+        at: u64,
+        new: u64,
+        value: &T,
+    ) -> u64
+        requires ring { pass.old.seat.table_id ≡ self.now.table.shared.table_id }
+        requires picked { X.value ≡ Some value.now }
+        requires member { (view_in pass.old).role ≡ Member }
+        requires fresh { 0 < (view_in pass.old).duty.room.fresh }
+        requires idle { (view_in pass.old).half ≡ Nothing }
+        requires open { (view_in pass.old).sight.room ≡ Some at }
+        requires most { at < 4611686018427387904 }
+        requires new { new ≡ at + 1 }
+        ensures pass { IsStill pass.old pass.new }
+        ensures drawn { result ≡ at → (view_in pass.new
+            ≡ with_duty Room done
+            (with_duty Values owes_wake (drew at value.now (view_in pass.old))))
+            × (held_by pass.new ≡ (at % self.now.size, None) ∷ held_by pass.old)
+            × MaySend (view_in pass.old) }
+        ensures missed { result ≢ at → Becomes pass.old pass.new (view_in pass.old) }
+    {
+        let _ = value;
+        self.table
+            .shared
+            .compare_exchange::<Draws<X, Done>>(&mut pass.seat, DRAWN, at, new)
     }
 
     /// Looks whether the ring is cut.
@@ -127,7 +217,9 @@ impl<T: Drop, A: Allocator + Drop> Ring<T, A> {
         ensures open { result < 9223372036854775808
             → Becomes pass.old pass.new (view_in pass.old) }
     {
-        self.table.shared.load::<SeesCut>(&mut pass.seat, DRAWN)
+        self.table
+            .shared
+            .load::<SeesCut<Same, Same>>(&mut pass.seat, DRAWN)
     }
 
     /// Cuts the ring, if as many positions are drawn as were seen.
@@ -138,7 +230,7 @@ impl<T: Drop, A: Allocator + Drop> Ring<T, A> {
         requires new { new ≡ seen + 9223372036854775808 }
         ensures pass { IsStill pass.old pass.new }
         ensures cut { result ≡ seen
-            → Becomes pass.old pass.new (with_duty owes_all (did_cut (view_in pass.old))) }
+            → Becomes pass.old pass.new (owes_both (did_cut (view_in pass.old))) }
         ensures missed { result ≢ seen → Becomes pass.old pass.new (view_in pass.old) }
     {
         self.table
@@ -189,11 +281,12 @@ impl<T: Drop, A: Allocator + Drop> Ring<T, A> {
             (sees_drawn (result % 9223372036854775808) (view_in pass.old)) }
         ensures empty { result % 9223372036854775808 ≤ (view_in pass.old).sight.low
             → result < 9223372036854775808
-            → Becomes pass.old pass.new (sees_empty result (with_duty looked (view_in pass.old)))
+            → Becomes pass.old pass.new
+            (sees_empty result (with_duty Values looked (view_in pass.old)))
             × SawAllTaken (view_in pass.new) × ((view_in pass.old).known.drawn ≤ result) }
         ensures over { result % 9223372036854775808 ≤ (view_in pass.old).sight.low
             → 9223372036854775808 ≤ result
-            → Becomes pass.old pass.new (told (with_duty looked (view_in pass.old))) }
+            → Becomes pass.old pass.new (told (with_duty Values looked (view_in pass.old))) }
         ensures told { KnowsOver (view_in pass.old)
             → (result % 9223372036854775808 ≤ (view_in pass.old).sight.low)
             × (9223372036854775808 ≤ result) }
@@ -206,7 +299,7 @@ impl<T: Drop, A: Allocator + Drop> Ring<T, A> {
     /// The same for one in the list: if no value is there yet, it sleeps from then on.
     pub(crate) fn load_drawn_listed(&self, pass: &mut Pass<T>) -> u64
         requires ring { pass.old.seat.table_id ≡ self.now.table.shared.table_id }
-        requires fresh { 0 < (view_in pass.old).duty.fresh }
+        requires fresh { 0 < (view_in pass.old).duty.values.fresh }
         ensures pass { IsStill pass.old pass.new }
         ensures some { (view_in pass.old).sight.low < result % 9223372036854775808
             → Becomes pass.old pass.new
@@ -214,11 +307,11 @@ impl<T: Drop, A: Allocator + Drop> Ring<T, A> {
         ensures empty { result % 9223372036854775808 ≤ (view_in pass.old).sight.low
             → result < 9223372036854775808
             → Becomes pass.old pass.new
-            (sees_empty result (with_duty falls_asleep (view_in pass.old)))
+            (sees_empty result (with_duty Values falls_asleep (view_in pass.old)))
             × SawAllTaken (view_in pass.new) × ((view_in pass.old).known.drawn ≤ result) }
         ensures over { result % 9223372036854775808 ≤ (view_in pass.old).sight.low
             → 9223372036854775808 ≤ result
-            → Becomes pass.old pass.new (told (with_duty done (view_in pass.old))) }
+            → Becomes pass.old pass.new (told (with_duty Values done (view_in pass.old))) }
         ensures told { KnowsOver (view_in pass.old)
             → (result % 9223372036854775808 ≤ (view_in pass.old).sight.low)
             × (9223372036854775808 ≤ result) }
@@ -237,7 +330,8 @@ impl<T: Drop, A: Allocator + Drop> Ring<T, A> {
         requires new { new ≡ at + 1 }
         ensures pass { IsStill pass.old pass.new }
         ensures claimed { result ≡ at → (x : T)
-            × (view_in pass.new ≡ with_duty looked (took at x (view_in pass.old)))
+            × (view_in pass.new
+            ≡ with_duty Room owes_wake (with_duty Values looked (took at x (view_in pass.old))))
             × (held_by pass.new ≡ (at % self.now.size, Some x) ∷ held_by pass.old)
             × MayTake (view_in pass.old) }
         ensures missed { result ≢ at
@@ -253,12 +347,13 @@ impl<T: Drop, A: Allocator + Drop> Ring<T, A> {
         requires ring { pass.old.seat.table_id ≡ self.now.table.shared.table_id }
         requires member { (view_in pass.old).role ≡ Member }
         requires idle { (view_in pass.old).half ≡ Nothing }
-        requires fresh { 0 < (view_in pass.old).duty.fresh }
+        requires fresh { 0 < (view_in pass.old).duty.values.fresh }
         requires ripe { (view_in pass.old).sight.ripe ≡ Some at }
         requires new { new ≡ at + 1 }
         ensures pass { IsStill pass.old pass.new }
         ensures claimed { result ≡ at → (x : T)
-            × (view_in pass.new ≡ with_duty done (took at x (view_in pass.old)))
+            × (view_in pass.new
+            ≡ with_duty Room owes_wake (with_duty Values done (took at x (view_in pass.old))))
             × (held_by pass.new ≡ (at % self.now.size, Some x) ∷ held_by pass.old)
             × MayTake (view_in pass.old) }
         ensures missed { result ≢ at

@@ -1,6 +1,6 @@
 use Rattle.mb_ring.proofs.Base.{arith}
 use Rattle.mb_segment.proofs.Places.{has_below}
-use Rattle.mb_ring.proofs.Kept.{at1}
+use Rattle.mb_ring.proofs.Loads.{at1}
 use Rattle.mb_ring.proofs.Places.{drawn_is}
 use Rattle.mb_ring.proofs.laws.full_is_true.Goals as goal
 

@@ -2,7 +2,7 @@ use Rattle.mb_ring.proofs.Base.{arith, dec_lt, dite, sym, ◌∙◌}
 use Rattle.mb_ring.specs.Vocabulary.{Has, all_entries, drawn_in}
 use Rattle.mb_segment.proofs.Spots.{all_length, at_below}
 use Rattle.mb_segment.proofs.Places.{is_cutter, some_cutter}
-use Rattle.mb_ring.proofs.Kept.{at0}
+use Rattle.mb_ring.proofs.Loads.{at0}
 use Rattle.mb_ring.proofs.Places.{cut_by, drawn_by, drawn_is, new_open, only_hub}
 use Rattle.mb_ring.proofs.laws.one_cutter.Goals as goal
 

@@ -1,7 +1,7 @@
 use Rattle.mb_ring.proofs.Base.{arith, subst}
 use Rattle.mb_segment.proofs.Spots.{all_length, below_length}
 use Rattle.mb_ring.specs.Vocabulary.{Half, HalfFits, all_entries}
-use Rattle.mb_ring.proofs.Kept.{at1}
+use Rattle.mb_ring.proofs.Loads.{at1}
 use Rattle.mb_ring.proofs.Laps.{not_again}
 use Rattle.mb_ring.proofs.Places.{drawn_is}
 use Rattle.mb_ring.proofs.laws.one_lap.Goals as goal

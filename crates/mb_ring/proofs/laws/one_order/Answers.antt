@@ -2,7 +2,7 @@ use Rattle.mb_ring.proofs.Base.{List, arith, subst, sym}
 use Rattle.mb_segment.proofs.Spots.{all_length, below_length}
 use Rattle.mb_segment.proofs.Places.{rises_by, rises_to}
 use Rattle.mb_ring.specs.Vocabulary.{Rises, Spot, all_entries}
-use Rattle.mb_ring.proofs.Kept.{at1}
+use Rattle.mb_ring.proofs.Loads.{at1}
 use Rattle.mb_ring.proofs.Places.{drawn_is, is_claimed, is_drawn}
 use Rattle.mb_ring.proofs.laws.one_order.Goals as goal
 

@@ -1,7 +1,7 @@
 use Rattle.mb_ring.proofs.Base.{ap, arith, some-injective, sym, ◌∙◌, ◌≡◌}
 use Rattle.mb_segment.proofs.Spots.{all_length, at_below, entry_of}
 use Rattle.mb_ring.specs.Vocabulary.{Claim, Entry, all_entries}
-use Rattle.mb_ring.proofs.Kept.{at1}
+use Rattle.mb_ring.proofs.Loads.{at1}
 use Rattle.mb_ring.proofs.Places.{claimed_by, drawn_by, drawn_is, is_claimed, is_drawn}
 use Rattle.mb_ring.proofs.laws.one_taker.Goals as goal
 

@@ -1,7 +1,7 @@
 use Rattle.mb_ring.proofs.Base.{ap, arith, length, ⊎_elim, ◌<◌, ◌≡◌}
 use Rattle.mb_segment.proofs.Places.{has_below}
 use Rattle.mb_segment.proofs.Spots.{nothing_left}
-use Rattle.mb_ring.proofs.Kept.{at0, at1}
+use Rattle.mb_ring.proofs.Loads.{at0, at1}
 use Rattle.mb_ring.proofs.Places.{drawn_is}
 use Rattle.mb_ring.proofs.laws.over_is_true.Goals as goal
 

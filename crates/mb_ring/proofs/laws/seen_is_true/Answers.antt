@@ -1,5 +1,5 @@
 use Rattle.mb_ring.proofs.Base.{arith}
-use Rattle.mb_ring.proofs.Kept.{at1}
+use Rattle.mb_ring.proofs.Loads.{at1}
 use Rattle.mb_ring.proofs.Laps.{marked_drawn}
 use Rattle.mb_ring.proofs.Places.{drawn_is}
 use Rattle.mb_ring.proofs.laws.seen_is_true.Goals as goal

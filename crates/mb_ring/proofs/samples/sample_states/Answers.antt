@@ -1,12 +1,12 @@
 use Rattle.mb_ring.proofs.Base.{ap, arith, inl, refl, ◌*◌, slice_index, sym, ℕ, ⊎_elim, ◌+◌, ◌≡◌}
 use Rattle.std.proofs.Math.Nat.{zero-mod}
 use Rattle.mb_segment.proofs.Spots.{all_length, at_below, below_length}
-use Rattle.mb_ring.specs.RingSamples.{boasting, forgotten, overfull, overslept, reused, sent, unused}
-use Rattle.mb_ring.specs.Vocabulary.{all_entries, turn, free}
+use Rattle.mb_ring.specs.RingSamples.{boasting, crowded, forgotten, overfull, overslept, reused, sent, unused}
+use Rattle.mb_ring.specs.Vocabulary.{Room, Values, all_entries, turn, free}
 use Rattle.mb_segment.proofs.Halves.{free_shut}
-use Rattle.mb_ring.proofs.Kept.{at0, at1, at2}
+use Rattle.mb_ring.proofs.Loads.{at0, at1, at_list_word}
 use Rattle.mb_ring.proofs.PassMoves.{opens}
-use Rattle.mb_ring.proofs.Places.{is_drawn, new_open}
+use Rattle.mb_ring.proofs.Places.{is_drawn, new_open, room_left}
 use Rattle.mb_ring.proofs.samples.sample_states.Goals as goal
 
 pub returns-clause-new : goal.returns-clause-new
@@ -25,7 +25,7 @@ returns-clause-reused c k =
     let d = at0 reused k in let t = at1 reused k in let m = k.small in
     let l = all_length k.history in
     let e = at_below (all_entries k.history) 0 (omega arith) in
-    let word : slice_index k.states 0 ≡ 2 = sym (ap (λ l. slice_index l 3) k.words) in
+    let word : slice_index k.states 0 ≡ 2 = sym (ap (λ l. slice_index l 4) k.words) in
     let z : turn k.size k.states 0 ≡ slice_index k.states 0 + 2 * 0
     = ap (λ (i : ℕ). slice_index k.states i + 2 * i) (zero-mod k.size) in
     ⊎_elim (λ y. let q = y.0 in absurd (omega arith)) (λ y. let q = y.0 in absurd (omega arith))
@@ -40,13 +40,20 @@ returns-clause-boasting c k =
 
 pub returns-clause-overslept : goal.returns-clause-overslept
 returns-clause-overslept c k =
-    let d = at0 overslept k in let t = at1 overslept k in let l = at2 overslept k in
-    let n = k.narrow in let m = k.small in
-    ⊎_elim (λ x. absurd (omega arith)) (λ x. absurd (omega arith)) k.quiet
+    let d = at0 overslept k in let t = at1 overslept k in let l = at_list_word Values overslept k in
+    let n = (k.lists Values).narrow in let m = k.small in
+    ⊎_elim (λ x. absurd (omega arith)) (λ x. absurd (omega arith)) (k.lists Values).quiet
 
 pub returns-clause-forgotten : goal.returns-clause-forgotten
 returns-clause-forgotten c k =
-    let d = at0 forgotten k in let l = at2 forgotten k in
-    let n = k.narrow in let m = k.small in
+    let d = at0 forgotten k in let l = at_list_word Values forgotten k in
+    let n = (k.lists Values).narrow in let m = k.small in
     let none_ : free k.cut 1 ≡ 0 = free_shut k.cut 1 (omega arith) in
-    ⊎_elim (λ x. absurd (omega arith)) (λ x. absurd (omega arith)) k.shut
+    ⊎_elim (λ x. absurd (omega arith)) (λ x. absurd (omega arith)) (k.lists Values).shut
+
+pub returns-clause-crowded : goal.returns-clause-crowded
+returns-clause-crowded c k =
+    let d = at0 crowded k in let t = at1 crowded k in let l = at_list_word Room crowded k in
+    let n = (k.lists Room).narrow in let m = k.small in let z = k.sized.1 in
+    let r = room_left crowded k (λ cut. omega arith) in
+    ⊎_elim (λ x. absurd (omega arith)) (λ x. absurd (omega arith)) (k.lists Room).quiet

@@ -6,4 +6,4 @@ pub returns-clause-early : goal.returns-clause-early
 returns-clause-early c saw = let lt = (saw 0 refl).0 in absurd (omega arith)
 
 pub returns-clause-owes : goal.returns-clause-owes
-returns-clause-owes c e = let n = ap (λ (v : View ℕ). v.duty.wakes) e in absurd (omega arith)
+returns-clause-owes c e = let n = ap (λ (v : View ℕ). v.duty.room.wakes) e in absurd (omega arith)

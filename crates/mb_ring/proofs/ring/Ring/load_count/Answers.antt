@@ -1,5 +1,5 @@
 use Rattle.std.proofs.Common.{arith}
-use Rattle.mb_ring.proofs.LookMoves.{counts}
+use Rattle.mb_ring.proofs.RoomMoves.{counts}
 use Rattle.mb_ring.proofs.ring.Ring.load_count.Goals as goal
 
 pub load-requires : goal.load-requires

@@ -20,5 +20,5 @@ load-requires g c =
       subst (λ (p : ℕ). Allows Keeps slots c.args.pass.now.seat.id me c.word_of.result (λ n. n)
           (seeing_mark p (step slots c.word_of.result 0 0 none) me))
           (sym r.picked)
-          (sees_marks slots c.args.pass.now.seat.id me c.word_of.result at (word ∙ ap (λ z. z + 3) is) r.low),
+          (sees_marks slots c.args.pass.now.seat.id me c.word_of.result at (word ∙ ap (λ z. z + 4) is) r.low),
     )

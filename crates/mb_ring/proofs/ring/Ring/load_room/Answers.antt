@@ -20,5 +20,5 @@ load-requires g c =
       subst (λ (p : ℕ). Allows Keeps slots c.args.pass.now.seat.id me c.word_of.result (λ n. n)
           (seeing_room p (step slots c.word_of.result 0 0 none) me))
           (sym r.picked)
-          (sees_rooms slots c.args.pass.now.seat.id me c.word_of.result at (word ∙ ap (λ z. z + 3) is)),
+          (sees_rooms slots c.args.pass.now.seat.id me c.word_of.result at (word ∙ ap (λ z. z + 4) is)),
     )

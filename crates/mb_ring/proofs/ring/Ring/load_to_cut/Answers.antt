@@ -1,5 +1,5 @@
 use Rattle.std.proofs.Common.{arith}
-use Rattle.mb_ring.proofs.LookMoves.{sees_cuts}
+use Rattle.mb_ring.proofs.RoomMoves.{sees_cuts}
 use Rattle.mb_ring.proofs.ring.Ring.load_to_cut.Goals as goal
 
 pub load-requires : goal.load-requires

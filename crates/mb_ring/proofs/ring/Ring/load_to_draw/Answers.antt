@@ -1,5 +1,5 @@
 use Rattle.std.proofs.Common.{arith}
-use Rattle.mb_ring.proofs.LookMoves.{asks}
+use Rattle.mb_ring.proofs.RoomMoves.{asks}
 use Rattle.mb_ring.proofs.ring.Ring.load_to_draw.Goals as goal
 
 pub load-requires : goal.load-requires

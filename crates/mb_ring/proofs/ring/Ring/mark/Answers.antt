@@ -20,6 +20,6 @@ store-requires g c =
       r.ring,
       omega arith,
       marks slots c.args.pass.now.seat.id (me.0, (slot, Some c.args.value) ∷ rest me.1) c.word_of.result _
-          (spot at c.args.value) (word ∙ ap (λ z. z + 3) is) (omega arith) r.member r.drawn
+          (spot at c.args.value) (word ∙ ap (λ z. z + 4) is) (omega arith) r.member r.drawn
           (ap (λ z. (z, Some c.args.value) ∷ rest me.1) is),
     )

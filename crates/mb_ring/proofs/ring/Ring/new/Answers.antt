@@ -8,8 +8,8 @@ use Rattle.mb_ring.proofs.ring.Ring.new.Goals as goal
 -- words that are all 0, and empty slots, keep the rule
 pub vacant-requires : goal.vacant-requires
 vacant-requires g c =
-    let many : c.args.size + 3 ≡ suc (suc (suc c.args.size)) = omega arith in
-    let zeros : c.as_slice.result.now ≡ replicate (c.args.size + 3) 0 = search rules in
+    let many : c.args.size + 4 ≡ suc (suc (suc (suc c.args.size))) = omega arith in
+    let zeros : c.as_slice.result.now ≡ replicate (c.args.size + 4) 0 = search rules in
     subst (λ (ws : List ℕ). Keeps (opening ws (empty_slots _ c.args.size) new_hub))
     (sym (zeros ∙ (λ i. replicate (many i) 0)))
     (opens c.args.size c.requires.some)

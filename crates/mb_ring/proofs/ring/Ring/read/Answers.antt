@@ -29,6 +29,6 @@ store-requires g c =
       r.ring,
       omega arith,
       reads_end slots c.args.pass.now.seat.id (me.0, (slot, c.take-value.new.self) ∷ rest me.1) c.word_of.result _
-          (spot at r.claimed.0) (word ∙ ap (λ z. z + 3) is) (omega arith) r.member r.claimed.1
+          (spot at r.claimed.0) (word ∙ ap (λ z. z + 4) is) (omega arith) r.member r.claimed.1
           (λ z. (is z, c.take-value.ensures.after z) ∷ rest me.1),
     )

@@ -3,8 +3,11 @@ use Rattle.mb_ring.proofs.ListMoves.{none_waits}
 use Rattle.mb_ring.proofs.ring.Ring.see_sleepers.Goals as goal
 
 pub load-requires : goal.load-requires
-load-requires g c = let wide = c.args.self.now.wide in let r = c.requires in (
-  r.ring,
-  omega arith,
-  none_waits c.args.self.now.table.shared.table_id.slots c.args.pass.now.seat.id c.args.pass.now.seat.me r.owes,
-)
+load-requires g c =
+    let wide = c.args.self.now.wide in let small = c.word.ensures.small in let r = c.requires in (
+      r.ring,
+      omega arith,
+      none_waits g.Q.AnyList.want c.args.self.now.table.shared.table_id.slots c.args.pass.now.seat.id
+          c.args.pass.now.seat.me
+          c.word.result c.word.ensures.word r.owes,
+    )

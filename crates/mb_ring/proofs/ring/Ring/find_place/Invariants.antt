@@ -1,9 +1,9 @@
 use Rattle.std.proofs.Common.{◌≡◌}
-use Rattle.mb_ring.specs.Vocabulary.{IsFree}
-use Rattle.mb_ring.proofs.tests.send.Given as goal
+use Rattle.mb_ring.specs.Vocabulary.{bare}
+use Rattle.mb_ring.proofs.ring.Ring.find_place.Given as goal
 
 abbrev pub invariant-loop : goal.invariant-loop
 invariant-loop g l =
     (goal.iterator-loop g).can_next l.iterator' × (goal.iterator-loop g).is_finite l.iterator'
     × (l.pass.seat.table_id ≡ l.initial.pass.seat.table_id) × (l.pass.seat.id ≡ l.initial.pass.seat.id)
-    × IsFree l.pass
+    × (bare l.pass.seat.me.0 ≡ bare l.initial.pass.seat.me.0) × (l.pass.seat.me.1 ≡ l.initial.pass.seat.me.1)

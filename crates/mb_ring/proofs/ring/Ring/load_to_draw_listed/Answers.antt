@@ -1,0 +1,11 @@
+use Rattle.std.proofs.Common.{arith}
+use Rattle.mb_ring.proofs.RoomMoves.{asks_listed}
+use Rattle.mb_ring.proofs.ring.Ring.load_to_draw_listed.Goals as goal
+
+pub load-requires : goal.load-requires
+load-requires g c = let wide = c.args.self.now.wide in let r = c.requires in (
+  c.requires.ring,
+  omega arith,
+  asks_listed c.args.self.now.table.shared.table_id.slots c.args.pass.now.seat.id c.args.pass.now.seat.me
+      r.fresh,
+)
