@@ -53,6 +53,7 @@ impl<T: Drop> End<T> {
             rights,
             inside,
             over,
+            behind: _,
         } = self;
         let Some(inside) = inside else { unreachable!() };
         let (inside, back) = match inside.try_send(value) {
@@ -75,6 +76,7 @@ impl<T: Drop> End<T> {
             rights,
             inside: Some(inside),
             over,
+            behind: false,
         };
         match back {
             None => Step::Sent(end),
@@ -106,6 +108,7 @@ impl<T: Drop> Debtor<T> {
             rights,
             inside: Some(busy.pay(rt)),
             over,
+            behind: false,
         }
     }
 
@@ -130,6 +133,7 @@ impl<T: Drop> Debtor<T> {
                 rights,
                 inside: Some(inside),
                 over,
+                behind: false,
             }),
             Err(busy) => Err(Debtor {
                 chair,

@@ -1,5 +1,5 @@
 //! An end looks for values, and never waits.
-ghost use Rattle.std.specs.Prelude.{◌≡◌, true, IfErr, IfOk};
+ghost use Rattle.std.specs.Prelude.{◌≡◌, true, IfErr, IfOk, is_some};
 ghost use Rattle.mb_channel.specs.Ends.{IsOver, view_of};
 ghost use Rattle.mb_channel.specs.Polls.{OfLook};
 ghost use Rattle.mb_channel.specs.Receives.{found_there};
@@ -20,6 +20,7 @@ impl<T: Drop> End<T> {
         ensures saw { IfOk result (λ r. IfAsleep r.1
             (SawNothing (found_there self.inside) r.0.busy)) }
         ensures back { IfErr result (λ e. (e ≡ self) × IsOver e) }
+        ensures inside { IfOk result (λ _. is_some self.inside ≡ true) }
     {
         let End {
             chair,
@@ -27,6 +28,7 @@ impl<T: Drop> End<T> {
             rights,
             inside,
             over,
+            behind,
         } = self;
         if over {
             return Err(End {
@@ -35,6 +37,7 @@ impl<T: Drop> End<T> {
                 rights,
                 inside,
                 over,
+                behind,
             });
         }
         let Some(inside) = inside else {
@@ -44,6 +47,7 @@ impl<T: Drop> End<T> {
                 rights,
                 inside: None,
                 over,
+                behind,
             });
         };
         let (busy, heard) = inside.poll();

@@ -1,6 +1,8 @@
 use Rattle.std.proofs.Common.{◌≡◌}
+use Rattle.mb_channel.specs.Ends.{IsBehind}
 use Rattle.mb_channel.specs.Standing.{NoMore, stand_of}
 use Rattle.mb_channel.proofs.channel.Channel.try_send.Given as goal
 
 abbrev pub invariant-loop : goal.invariant-loop
 invariant-loop g l = NoMore (stand_of l.initial.end) (stand_of l.end) × (l.value ≡ l.initial.value)
+    × (IsBehind l.initial.end → IsBehind l.end × (l.counter ≡ 0))
