@@ -96,7 +96,7 @@ impl<T: Drop> Channel<T> {
 
     /// The same by a receiver, which goes on receiving what is left. It makes an end that goes on for it, and takes that
     /// back. It is `false` if so many ends were made that they cannot be counted: then the channel is closed, but no
-    /// segment is cut.
+    /// segment is cut, and nothing else has changed.
     pub fn close_by_receiver<R: Wait>(&self, rt: &R, receiver: &mut Receiver<T>) -> bool
         requires channel { IsEndOf self.now receiver.old.end }
         ensures channel { IsEndOf self.now receiver.new.end }
@@ -107,8 +107,8 @@ impl<T: Drop> Channel<T> {
         ensures ended { result ≡ true → HasEnded receiver.new.end }
         ensures given { result ≡ true → (n : ℕ) × (given_to receiver.new.end
             ≡ given_to receiver.old.end ++ record { number = n; sent = []; got = [] } ∷ []) }
-        ensures refused { result ≡ false
-            → given_to receiver.new.end ≡ given_to receiver.old.end }
+        ensures refused { result ≡ false → (receiver.new.end.inside ≡ receiver.old.end.inside)
+            × (view_of receiver.new.end ≡ saw_closed (view_of receiver.old.end)) }
     {
         self.close_list(rt, &mut receiver.end);
         if !self.count_one(rt, &mut receiver.end) {

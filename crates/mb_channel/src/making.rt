@@ -1,5 +1,5 @@
 //! Ends are made from one another.
-ghost use Rattle.std.specs.Prelude.{◌≡◌, ◌++◌, ◌∷◌, ◌+◌, ◌-◌, ◌<◌, ◌≤◌, false, true, IfOk, IfSome, None};
+ghost use Rattle.std.specs.Prelude.{◌≡◌, ◌≢◌, ◌++◌, ◌∷◌, ◌+◌, ◌-◌, ◌<◌, ◌≤◌, false, true, IfOk, IfSome, None};
 ghost use Rattle.mb_channel.specs.Tallies.{hires_receiver, hires_sender};
 ghost use Rattle.mb_channel.specs.Closing.{KnowsEnd};
 ghost use Rattle.mb_channel.specs.Homes.{IsFirst, IsReady, view_in};
@@ -40,7 +40,8 @@ impl<T: Drop> Channel<T> {
         requires seen { seen < 18446744073709551615 }
         ensures end { IsSame end.old end.new }
         ensures takes { (view_of end.new).takes ≡ (view_of end.old).takes }
-        ensures behind { end.new.behind ≡ end.old.behind }
+        ensures there { (end.new.inside ≡ end.old.inside) × (end.new.behind ≡ end.old.behind) }
+        ensures missed { result ≢ seen → view_of end.new ≡ view_of end.old }
         ensures sent { sent_by end.new ≡ sent_by end.old }
         ensures got { got_by end.new ≡ got_by end.old }
         ensures more { result ≡ seen → (view_of end.new).rights ≡ (view_of end.old).rights + 1 }
@@ -57,7 +58,8 @@ impl<T: Drop> Channel<T> {
         requires channel { IsEndOf self.now end.old }
         ensures end { IsSame end.old end.new }
         ensures takes { (view_of end.new).takes ≡ (view_of end.old).takes }
-        ensures behind { end.new.behind ≡ end.old.behind }
+        ensures there { (end.new.inside ≡ end.old.inside) × (end.new.behind ≡ end.old.behind) }
+        ensures missed { result ≡ false → view_of end.new ≡ view_of end.old }
         ensures sent { sent_by end.new ≡ sent_by end.old }
         ensures got { got_by end.new ≡ got_by end.old }
         ensures more { result ≡ true → 1 < (view_of end.new).rights }
