@@ -1,9 +1,10 @@
 -- What an end sent and received in all, and which channel it belongs to.
-use Rattle.std.specs.Prelude.{◌≡◌, ◌⊎◌, List, [], map, true, IfSome, Some, is_some}
+use Rattle.std.specs.Prelude.{◌≡◌, List, [], map, true, IfSome, is_some}
 use Rattle.mb_segment.specs.Vocabulary.{is_over}
 use Rattle.mb_channel.specs.Types.{Knows}
 use Rattle.mb_channel.specs.declared.channel.Channel.{Channel}
 use Rattle.mb_channel.specs.declared.end.End.{End}
+use Rattle.mb_channel.specs.Closing.{KnowsEnd}
 use Rattle.mb_channel.specs.Inside.{Log, log_in, log_of_past, told_in}
 
 abbrev pub view_of : {T : Type 0} → End T → Knows T
@@ -53,10 +54,9 @@ pub record IsLeft {T : Type 0} (old new : Knows T) : Type 0 where
   pub receives : new.receives ≡ old.receives
   pub told : (new.alone ≡ old.alone) × (new.shut ≡ old.shut) × (new.last ≡ old.last)
 
--- it was told that it is behind the last segment, for ever: the list is closed, or no sender is left
+-- it was told that it is behind the last segment, for ever, and refuses each call as closed
 abbrev pub IsBehind : {T : Type 0} → End T → Type 0
-IsBehind e = ((view_of e).last ≡ Some (view_of e).at)
-    × (((view_of e).shut ≡ true) ⊎ (((view_of e).alone ≡ true) × ((view_of e).sends ≡ 0)))
+IsBehind e = (e.behind ≡ true) × KnowsEnd (view_of e)
 
 -- it was told how many segments there are, for ever. Each is over
 abbrev pub HasEnded : {T : Type 0} → End T → Type 0

@@ -7,6 +7,7 @@ use Rattle.mb_channel.specs.declared.heard.Heard.TheVariants as heard
 use Rattle.mb_channel.specs.declared.polls.Asleep.{Asleep}
 use Rattle.mb_channel.specs.declared.polls.Polled.{Polled}
 use Rattle.mb_channel.specs.declared.polls.Polled.TheVariants as polled
+use Rattle.mb_channel.specs.declared.channel.Refused.TheVariants.{Closed}
 use Rattle.mb_channel.specs.Standing.{NoMore, OneGot, Standing, stand_of, stand_with}
 use Rattle.mb_channel.specs.Answers.{IfClosed}
 use Rattle.mb_channel.specs.Ends.{IsBehind, view_of}
@@ -43,3 +44,13 @@ IfSleeps (polled.Again r) P = Unit {0}
 IfSleeps (polled.Owes l) P = Unit {0}
 IfSleeps (polled.Empty r) P = Unit {0}
 IfSleeps (polled.Refused r why) P = Unit {0}
+
+-- the receive is refused, since the channel is closed
+abbrev pub TellsClosed : {T : Type 0} → Polled T → Type 0
+TellsClosed (polled.Took r x) = ⊥
+TellsClosed (polled.TookOwing l x) = ⊥
+TellsClosed (polled.Sleeps a) = ⊥
+TellsClosed (polled.Again r) = ⊥
+TellsClosed (polled.Owes l) = ⊥
+TellsClosed (polled.Empty r) = ⊥
+TellsClosed (polled.Refused r why) = why ≡ Closed

@@ -8,8 +8,9 @@ use Rattle.mb_channel.specs.declared.debtor.Step.TheVariants as step
 use Rattle.mb_channel.specs.declared.end.End.{End}
 use Rattle.mb_channel.specs.declared.try_sends.Sending.{Sending}
 use Rattle.mb_channel.specs.declared.try_sends.Sending.TheVariants as sending
+use Rattle.mb_channel.specs.declared.channel.Refused.TheVariants.{Closed}
 use Rattle.mb_channel.specs.Answers.{IfClosed}
-use Rattle.mb_channel.specs.Ends.{SawOver, StaysTold, got_by, sent_by, view_of}
+use Rattle.mb_channel.specs.Ends.{IsBehind, SawOver, StaysTold, got_by, sent_by, view_of}
 use Rattle.mb_channel.specs.Inside.{in_visits, values}
 
 pub record Standing (T : Type 0) : Type 0 where
@@ -67,4 +68,11 @@ OfSending (sending.Sent s) x v = OneSent x v (stand_of s.end)
 OfSending (sending.Owes o) x v = OneSent x v (stand_with o.debtor)
 OfSending (sending.Again s y) x v = NoMore v (stand_of s.end) × (y ≡ x)
 OfSending (sending.Refused s n) x v = NoMore v (stand_of s.end) × (n.value ≡ x)
-    × IfClosed n.why ((view_of s.end).shut ≡ true)
+    × IfClosed n.why (IsBehind s.end × ((view_of s.end).shut ≡ true))
+
+-- the send is refused, since the channel is closed
+abbrev pub TellsClosed : {T : Type 0} → Sending T → Type 0
+TellsClosed (sending.Sent s) = ⊥
+TellsClosed (sending.Owes o) = ⊥
+TellsClosed (sending.Again s y) = ⊥
+TellsClosed (sending.Refused s n) = n.why ≡ Closed

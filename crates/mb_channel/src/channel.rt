@@ -1,5 +1,5 @@
 //! A channel, and how its ends come from segment to segment.
-use crate::answers::{Appended, Came};
+use crate::answers::Came;
 use crate::end::End;
 use crate::inside::Inside;
 use crate::list::List;
@@ -29,13 +29,15 @@ fn size_at(at: usize) -> u32 {
 }
 
 impl<T: Drop> Channel<T> {
-    ghost use Rattle.std.specs.Prelude.{◌≡◌, ◌<◌, true, false, is_some, IfErr, IfOk};
+    ghost use Rattle.std.specs.Prelude.{◌≡◌, ◌<◌, true, false, is_some, Err, IfErr, IfOk};
+    ghost use Rattle.mb_channel.specs.declared.channel.Refused.TheVariants.{Closed, NoMemory};
     ghost use Rattle.mb_channel.specs.Answers.{IfClosed};
     ghost use Rattle.mb_channel.specs.Receives.{FoundNone, IsLater};
     ghost use Rattle.mb_channel.specs.Ends.{IsBehind, IsEndOf, IsOver, IsSame, SawOver, got_by, sent_by, view_of};
     ghost use Rattle.mb_channel.specs.Wakes.{Tells, wakes_of};
 
-    /// Adds a segment where the end is, if there is none yet.
+    /// Adds a segment where the end is, if there is none yet. A list that is closed stays as it is: the end hears that
+    /// where it comes next.
     fn append(&self, end: &mut End<T>) -> Result<(), Refused>
         requires channel { IsEndOf self.now end.old }
         requires sender { 0 < (view_of end.old).sends }
@@ -45,21 +47,20 @@ impl<T: Drop> Channel<T> {
         ensures got { got_by end.new ≡ got_by end.old }
         ensures wakes { Tells 0 (wakes_of end.old) (wakes_of end.new) }
         ensures takes { (view_of end.new).takes ≡ (view_of end.old).takes }
-        ensures closed { IfErr result (λ why. IfClosed why ((view_of end.new).shut ≡ true)) }
+        ensures refused { IfErr result (λ why. why ≡ NoMemory) }
     {
         let at = end.at;
         match self
             .list
             .append(&mut end.chair, at, self.alloc, size_at(at))
         {
-            Ok(Appended::There) => Ok(()),
-            Ok(Appended::Locked) => Ok(()),
-            Ok(Appended::Closed) => Err(Refused::Closed),
+            Ok(_) => Ok(()),
             Err(_) => Err(Refused::NoMemory),
         }
     }
 
-    /// Tries to come to the segment at the end's place. It is `false` if there is none yet.
+    /// Tries to come to the segment at the end's place. It is `false` if there is none yet. Once it was told that the
+    /// channel is closed, it is told so without a look.
     pub(crate) fn reach(&self, end: &mut End<T>, takes: bool) -> Result<bool, Refused>
         requires channel { IsEndOf self.now end.old }
         requires outside { is_some end.old.inside ≡ false }
@@ -72,7 +73,11 @@ impl<T: Drop> Channel<T> {
         ensures takes { takes ≡ true → (view_of end.new).takes ≡ true }
         ensures none { IfOk result (λ there. there ≡ false → FoundNone end.new) }
         ensures closed { IfErr result (λ why. IfClosed why (IsBehind end.new)) }
+        ensures still { IsBehind end.old → result ≡ Err Closed }
     {
+        if end.behind {
+            return Err(Refused::Closed);
+        }
         let at = end.at;
         if at == usize::MAX {
             return Err(Refused::Crowded);
@@ -88,7 +93,10 @@ impl<T: Drop> Channel<T> {
                 Ok(true)
             }
             Came::NotYet => Ok(false),
-            Came::Closed => Err(Refused::Closed),
+            Came::Closed => {
+                end.behind = true;
+                Err(Refused::Closed)
+            }
             Came::Crowded => Err(Refused::Crowded),
             Came::Locked => Ok(true),
         }
@@ -107,9 +115,8 @@ impl<T: Drop> Channel<T> {
         ensures wakes { Tells 0 (wakes_of end.old) (wakes_of end.new) }
         ensures takes { takes ≡ true → (view_of end.new).takes ≡ true }
         ensures none { IfOk result (λ there. there ≡ false → FoundNone end.new) }
-        ensures behind { takes ≡ true → IfErr result (λ why. IfClosed why (IsBehind end.new)) }
-        ensures shut { takes ≡ false
-            → IfErr result (λ why. IfClosed why ((view_of end.new).shut ≡ true)) }
+        ensures closed { IfErr result (λ why. IfClosed why (IsBehind end.new)) }
+        ensures still { IsBehind end.old → result ≡ Err Closed }
     {
         let there = self.reach(end, takes)?;
         if there || takes {
@@ -168,9 +175,8 @@ impl<T: Drop> Channel<T> {
         ensures wakes { Tells 0 (wakes_of end.old) (wakes_of end.new) }
         ensures takes { takes ≡ true → (view_of end.new).takes ≡ true }
         ensures none { IfOk result (λ there. there ≡ false → FoundNone end.new) }
-        ensures behind { takes ≡ true → IfErr result (λ why. IfClosed why (IsBehind end.new)) }
-        ensures shut { takes ≡ false
-            → IfErr result (λ why. IfClosed why ((view_of end.new).shut ≡ true)) }
+        ensures closed { IfErr result (λ why. IfClosed why (IsBehind end.new)) }
+        ensures still { IsBehind end.old → result ≡ Err Closed }
     {
         if end.inside.is_some() {
             self.leave(end);

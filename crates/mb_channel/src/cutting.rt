@@ -68,7 +68,7 @@ impl<T: Drop> Channel<T> {
     fn close_list<R: Wait>(&self, rt: &R, end: &mut End<T>)
         requires channel { IsEndOf self.now end.old }
         ensures chair { (end.new.chair.table_id ≡ end.old.chair.table_id)
-            × (end.new.inside ≡ end.old.inside) }
+            × (end.new.inside ≡ end.old.inside) × (end.new.behind ≡ end.old.behind) }
         ensures view { view_of end.new ≡ saw_closed (view_of end.old) }
     {
         for _ in rt.forever() {
@@ -80,13 +80,13 @@ impl<T: Drop> Channel<T> {
         unreachable!()
     }
 
-    /// Closes the channel, for ever: no more can be sent. All receivers that sleep are woken, and what is left can be
-    /// received.
+    /// Closes the channel, for ever: no more can be sent, and each later send of this end is refused. All receivers that
+    /// sleep are woken, and what is left can be received.
     pub fn close<R: Wait>(&self, rt: &R, sender: &mut Sender<T>)
         requires channel { IsEndOf self.now sender.old.end }
         ensures end { IsSame sender.old.end sender.new.end }
         ensures closed { (view_of sender.new.end).shut ≡ true }
-        ensures ended { HasEnded sender.new.end }
+        ensures ended { HasEnded sender.new.end × IsBehind sender.new.end }
         ensures sent { sent_by sender.new.end ≡ sent_by sender.old.end }
         ensures got { got_by sender.new.end ≡ got_by sender.old.end }
     {
@@ -96,18 +96,19 @@ impl<T: Drop> Channel<T> {
 
     /// The same by a receiver, which goes on receiving what is left. It makes an end that goes on for it, and takes that
     /// back. It is `false` if so many ends were made that they cannot be counted: then the channel is closed, but no
-    /// segment is cut.
+    /// segment is cut, and nothing else has changed.
     pub fn close_by_receiver<R: Wait>(&self, rt: &R, receiver: &mut Receiver<T>) -> bool
         requires channel { IsEndOf self.now receiver.old.end }
         ensures channel { IsEndOf self.now receiver.new.end }
         ensures logs { log_of receiver.new.end ≡ log_of receiver.old.end }
         ensures told { StaysTold (view_of receiver.old.end) (view_of receiver.new.end) }
+        ensures behind { IsBehind receiver.old.end → IsBehind receiver.new.end }
         ensures closed { (view_of receiver.new.end).shut ≡ true }
         ensures ended { result ≡ true → HasEnded receiver.new.end }
         ensures given { result ≡ true → (n : ℕ) × (given_to receiver.new.end
             ≡ given_to receiver.old.end ++ record { number = n; sent = []; got = [] } ∷ []) }
-        ensures refused { result ≡ false
-            → given_to receiver.new.end ≡ given_to receiver.old.end }
+        ensures refused { result ≡ false → (receiver.new.end.inside ≡ receiver.old.end.inside)
+            × (view_of receiver.new.end ≡ saw_closed (view_of receiver.old.end)) }
     {
         self.close_list(rt, &mut receiver.end);
         if !self.count_one(rt, &mut receiver.end) {

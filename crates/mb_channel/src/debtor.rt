@@ -55,6 +55,7 @@ impl<T: Drop> End<T> {
             rights,
             inside,
             over,
+            behind: _,
         } = self;
         let Some(inside) = inside else { unreachable!() };
         let (inside, back) = match inside.try_send(value) {
@@ -77,6 +78,7 @@ impl<T: Drop> End<T> {
             rights,
             inside: Some(inside),
             over,
+            behind: false,
         };
         match back {
             None => Step::Sent(end),
@@ -109,6 +111,7 @@ impl<T: Drop> Debtor<T> {
             rights,
             inside: Some(busy.pay(rt)),
             over,
+            behind: false,
         }
     }
 
@@ -135,6 +138,7 @@ impl<T: Drop> Debtor<T> {
                 rights,
                 inside: Some(inside),
                 over,
+                behind: false,
             }),
             Err(busy) => Err(Debtor {
                 chair,

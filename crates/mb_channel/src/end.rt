@@ -2,6 +2,7 @@
 ghost use Rattle.std.specs.Prelude.{◌≡◌, ◌<◌, [], true, false, is_some};
 ghost use Rattle.mb_channel.specs.Homes.{IsReady, view_in};
 ghost use Rattle.mb_channel.specs.Inside.{got_there, share_in, told_there};
+ghost use Rattle.mb_channel.specs.Closing.{KnowsEnd};
 
 use crate::inside::Inside;
 use crate::list::Chair;
@@ -21,6 +22,8 @@ pub struct End<T: Drop> {
     pub(crate) inside: Option<Inside<T>>,
     /// Whether it was told that no value can come any more in the segment where it is.
     pub(crate) over: bool,
+    /// Whether it was told that it is behind the last segment, for ever.
+    pub(crate) behind: bool,
     ghost ready: { IsReady chair.me },
     ghost here: { (view_in chair).at ≡ at },
     ghost counts: { 0 < (view_in chair).rights },
@@ -31,6 +34,8 @@ pub struct End<T: Drop> {
     ghost poor: { (view_in chair).takes ≡ false → got_there inside ≡ [] },
     ghost told: { over ≡ told_there inside },
     ghost room: { is_some inside ≡ true → at < 18446744073709551615 },
+    ghost outside: { behind ≡ true → is_some inside ≡ false },
+    ghost ended: { behind ≡ true → KnowsEnd (view_in chair) },
 }
 
 /// An end that sends.
@@ -45,11 +50,12 @@ pub struct Sender<T: Drop> {
 pub struct Receiver<T: Drop> {
     pub(crate) end: End<T>,
     ghost takes: { (view_in end.chair).takes ≡ true },
+    ghost sends: { (view_in end.chair).sends ≡ 0 },
     ghost receives: { 0 < (view_in end.chair).receives },
 }
 
 impl<T: Drop> End<T> {
-    ghost use Rattle.std.specs.Prelude.{◌++◌, ◌∷◌, IfErr, IfNone, IfSome, OnErr, OnOk};
+    ghost use Rattle.std.specs.Prelude.{◌++◌, ◌∷◌, Err, IfErr, IfNone, IfSome, None, OnErr, OnOk};
     ghost use Rattle.mb_channel.specs.Ends.{IsOver, SawOver, got_by, sent_by, view_of};
 
     /// Sends a value in the segment where the end is. It comes back if the end is in none, or if no more can be sent
@@ -60,6 +66,8 @@ impl<T: Drop> End<T> {
         ensures sent { OnOk result (sent_by self.new ≡ sent_by self.old ++ value ∷ []) }
         ensures back { IfErr result (λ x. (x ≡ value) × (sent_by self.new ≡ sent_by self.old)) }
         ensures over { OnErr result (SawOver self.new) }
+        ensures outside { is_some self.old.inside ≡ false
+            → (result ≡ Err value) × (self.new ≡ self.old) }
         ensures got { got_by self.new ≡ got_by self.old }
     {
         let Some(inside) = self.inside.take() else {
@@ -78,6 +86,8 @@ impl<T: Drop> End<T> {
         ensures chair { self.new.chair ≡ self.old.chair }
         ensures got { IfSome result (λ x. got_by self.new ≡ got_by self.old ++ x ∷ []) }
         ensures none { IfNone result (IsOver self.new × (got_by self.new ≡ got_by self.old)) }
+        ensures outside { is_some self.old.inside ≡ false
+            → (result ≡ None) × (self.new ≡ self.old) }
         ensures sent { sent_by self.new ≡ sent_by self.old }
     {
         let inside = self.inside.take()?;
@@ -91,8 +101,9 @@ impl<T: Drop> End<T> {
 }
 
 impl<T: Drop> End<T> {
-    ghost use Rattle.std.specs.Prelude.{◌++◌, ◌∷◌, IfNone, IfSome};
+    ghost use Rattle.std.specs.Prelude.{◌++◌, ◌∷◌, IfNone, IfSome, None};
     ghost use Rattle.mb_segment.specs.Waiting.{OfReceived};
+    ghost use Rattle.mb_segment.specs.declared.waiting.Received.TheVariants.{Over};
     ghost use Rattle.mb_channel.specs.Ends.{IsOver, got_by, sent_by, view_of};
     ghost use Rattle.mb_channel.specs.Receives.{IsLater, OfTried, SawEmpty};
     ghost use Rattle.mb_channel.specs.Wakes.{Tells, wakes_of};
@@ -107,6 +118,8 @@ impl<T: Drop> End<T> {
             (λ x. got_by self.new ≡ got_by self.old ++ x ∷ [])
             (IsOver self.new × (got_by self.new ≡ got_by self.old))
             (SawEmpty self.old self.new × (got_by self.new ≡ got_by self.old)) }
+        ensures outside { is_some self.old.inside ≡ false
+            → (result ≡ Over) × (self.new ≡ self.old) }
         ensures sent { sent_by self.new ≡ sent_by self.old }
     {
         let Some(inside) = self.inside.take() else {
@@ -131,6 +144,8 @@ impl<T: Drop> End<T> {
             (SawEmpty self.old self.new × (got_by self.new ≡ got_by self.old))
             (got_by self.new ≡ got_by self.old)) }
         ensures none { IfNone result (IsOver self.new × (got_by self.new ≡ got_by self.old)) }
+        ensures outside { is_some self.old.inside ≡ false
+            → (result ≡ None) × (self.new ≡ self.old) }
         ensures sent { sent_by self.new ≡ sent_by self.old }
         ensures wakes { Tells 0 (wakes_of self.old) (wakes_of self.new) }
     {

@@ -3,7 +3,7 @@ ghost use Rattle.std.specs.Prelude.{◌≡◌, ◌++◌, ◌∷◌, ◌+◌, ◌
 ghost use Rattle.mb_channel.specs.Homes.{IsReady, past_of, view_in};
 ghost use Rattle.mb_channel.specs.Inside.{log_of_past};
 ghost use Rattle.mb_channel.specs.Tallies.{retires_sender};
-ghost use Rattle.mb_channel.specs.Ends.{HasEnded, IsEndOf, IsLeft, StaysTold, given_to, got_by, log_of, sent_by, view_of};
+ghost use Rattle.mb_channel.specs.Ends.{HasEnded, IsBehind, IsEndOf, IsLeft, StaysTold, given_to, got_by, log_of, sent_by, view_of};
 
 use crate::answers::Retired;
 use crate::channel::Channel;
@@ -29,6 +29,7 @@ impl<T: Drop> Channel<T> {
             rights,
             inside,
             over,
+            behind: _,
         } = end;
         let mut chair = chair;
         let Some(inside) = inside else {
@@ -49,8 +50,10 @@ impl<T: Drop> Channel<T> {
     /// Takes back another end.
     pub(crate) fn take_in<R: Wait>(&self, rt: &R, end: &mut End<T>, other: End<T>)
         requires channel { IsEndOf self.now end.old × IsEndOf self.now other }
+        requires none { (view_of other).sends ≡ 0 }
         ensures list { end.new.chair.table_id ≡ end.old.chair.table_id }
-        ensures sends { (view_of end.new).sends ≡ (view_of end.old).sends + (view_of other).sends }
+        ensures sends { (view_of end.new).sends ≡ (view_of end.old).sends }
+        ensures behind { IsBehind end.old → IsBehind end.new }
         ensures alone { (view_of end.new).alone ≡ (view_of end.old).alone || (view_of other).alone }
         ensures told { StaysTold (view_of end.old) (view_of end.new) }
         ensures last { is_some (view_of other).last ≡ true → is_some (view_of end.new).last ≡ true }
@@ -95,6 +98,7 @@ impl<T: Drop> Channel<T> {
         ensures channel { IsEndOf self.now to.new.end }
         ensures logs { log_of to.new.end ≡ log_of to.old.end }
         ensures told { StaysTold (view_of to.old.end) (view_of to.new.end) }
+        ensures behind { IsBehind to.old.end → IsBehind to.new.end }
         ensures given { given_to to.new.end
             ≡ given_to to.old.end ++ log_of sender.end ∷ given_to sender.end }
         ensures retired { (view_of to.new.end).sends ≡ (view_of to.old.end).sends }
@@ -117,6 +121,7 @@ impl<T: Drop> Channel<T> {
         ensures channel { IsEndOf self.now to.new.end }
         ensures logs { log_of to.new.end ≡ log_of to.old.end }
         ensures told { StaysTold (view_of to.old.end) (view_of to.new.end) }
+        ensures behind { IsBehind to.old.end → IsBehind to.new.end }
         ensures given { given_to to.new.end
             ≡ given_to to.old.end ++ log_of receiver.end ∷ given_to receiver.end }
     {

@@ -185,6 +185,8 @@ impl<T: Drop> List<T> {
             × ((view_in result).takes ≡ (view_in chair.old).takes)
             × ((view_in result).orderly ≡ (view_in chair.old).orderly)
             × ((view_in result).sends ≡ S.sends) × ((view_in result).receives ≡ S.receives)
+            × ((view_in result).alone ≡ (view_in chair.old).alone)
+            × ((view_in result).shut ≡ (view_in chair.old).shut)
             × ((view_in result).last ≡ (view_in chair.old).last) }
     {
         let mut new = self.table.shared.split_seat::<Splits<S>>(chair);

@@ -1,5 +1,5 @@
 //! An end looks for values, and never waits.
-ghost use Rattle.std.specs.Prelude.{◌≡◌, true, IfErr, IfOk};
+ghost use Rattle.std.specs.Prelude.{◌≡◌, true, IfErr, IfOk, is_some};
 ghost use Rattle.mb_channel.specs.Ends.{IsOver, view_of};
 ghost use Rattle.mb_channel.specs.Polls.{OfLook};
 ghost use Rattle.mb_channel.specs.Receives.{found_there};
@@ -22,6 +22,7 @@ impl<T: Drop> End<T> {
             (SawNothing (found_there self.inside) r.0.busy)) }
         ensures back { IfErr result (λ e. (e ≡ self) × IsOver e) }
         ensures wakes { IfOk result (λ r. Tells 0 (wakes_of self) (wakes_with r.0)) }
+        ensures inside { IfOk result (λ _. is_some self.inside ≡ true) }
     {
         let End {
             chair,
@@ -29,6 +30,7 @@ impl<T: Drop> End<T> {
             rights,
             inside,
             over,
+            behind,
         } = self;
         if over {
             return Err(End {
@@ -37,6 +39,7 @@ impl<T: Drop> End<T> {
                 rights,
                 inside,
                 over,
+                behind,
             });
         }
         let Some(inside) = inside else {
@@ -46,6 +49,7 @@ impl<T: Drop> End<T> {
                 rights,
                 inside: None,
                 over,
+                behind,
             });
         };
         let (busy, heard) = inside.poll();

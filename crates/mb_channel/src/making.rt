@@ -1,8 +1,9 @@
 //! Ends are made from one another.
-ghost use Rattle.std.specs.Prelude.{◌≡◌, ◌++◌, ◌∷◌, ◌+◌, ◌-◌, ◌<◌, ◌≤◌, false, true, IfOk, IfSome, None};
+ghost use Rattle.std.specs.Prelude.{◌≡◌, ◌≢◌, ◌++◌, ◌∷◌, ◌+◌, ◌-◌, ◌<◌, ◌≤◌, false, true, IfOk, IfSome, None};
 ghost use Rattle.mb_channel.specs.Tallies.{hires_receiver, hires_sender};
+ghost use Rattle.mb_channel.specs.Closing.{KnowsEnd};
 ghost use Rattle.mb_channel.specs.Homes.{IsFirst, IsReady, view_in};
-ghost use Rattle.mb_channel.specs.Ends.{IsEndOf, IsFresh, IsSame, StaysTold, given_to, got_by, log_of, sent_by, view_of};
+ghost use Rattle.mb_channel.specs.Ends.{IsBehind, IsEndOf, IsFresh, IsSame, StaysTold, given_to, got_by, log_of, sent_by, view_of};
 
 use crate::channel::Channel;
 use crate::end::{End, Receiver, Sender};
@@ -11,12 +12,14 @@ use crate::rule::{AsReceiver, AsSender, Side};
 use std::alloc::{AllocError, Global};
 use std::sync::Wait;
 
-/// An end that is in no segment.
-pub(crate) fn end_at<T: Drop>(chair: Chair<T>, at: usize) -> End<T>
+/// An end that is in no segment, behind the last one or not.
+pub(crate) fn end_at<T: Drop>(chair: Chair<T>, at: usize, behind: bool) -> End<T>
     requires ready { IsReady chair.me }
     requires first { IsFirst (view_in chair) }
     requires here { (view_in chair).at ≡ at }
     requires orderly { (view_in chair).orderly ≡ true }
+    requires ended { behind ≡ true → KnowsEnd (view_in chair) }
+    ensures behind { result.behind ≡ behind }
     ensures chair { result.chair ≡ chair }
     ensures fresh { IsFresh result }
 {
@@ -26,6 +29,7 @@ pub(crate) fn end_at<T: Drop>(chair: Chair<T>, at: usize) -> End<T>
         rights: 1,
         inside: None,
         over: false,
+        behind,
     }
 }
 
@@ -36,6 +40,8 @@ impl<T: Drop> Channel<T> {
         requires seen { seen < 18446744073709551615 }
         ensures end { IsSame end.old end.new }
         ensures takes { (view_of end.new).takes ≡ (view_of end.old).takes }
+        ensures there { (end.new.inside ≡ end.old.inside) × (end.new.behind ≡ end.old.behind) }
+        ensures missed { result ≢ seen → view_of end.new ≡ view_of end.old }
         ensures sent { sent_by end.new ≡ sent_by end.old }
         ensures got { got_by end.new ≡ got_by end.old }
         ensures more { result ≡ seen → (view_of end.new).rights ≡ (view_of end.old).rights + 1 }
@@ -52,6 +58,8 @@ impl<T: Drop> Channel<T> {
         requires channel { IsEndOf self.now end.old }
         ensures end { IsSame end.old end.new }
         ensures takes { (view_of end.new).takes ≡ (view_of end.old).takes }
+        ensures there { (end.new.inside ≡ end.old.inside) × (end.new.behind ≡ end.old.behind) }
+        ensures missed { result ≡ false → view_of end.new ≡ view_of end.old }
         ensures sent { sent_by end.new ≡ sent_by end.old }
         ensures got { got_by end.new ≡ got_by end.old }
         ensures more { result ≡ true → 1 < (view_of end.new).rights }
@@ -80,6 +88,7 @@ impl<T: Drop> Channel<T> {
             × ((view_of end.new).number ≡ (view_of end.old).number)
             × ((view_of end.new).ended ≡ (view_of end.old).ended)
             × StaysTold (view_of end.old) (view_of end.new) }
+        ensures behind { IsBehind end.old → IsBehind end.new × IsBehind result }
         ensures sent { sent_by end.new ≡ sent_by end.old }
         ensures got { got_by end.new ≡ got_by end.old }
         ensures sends { ((view_of end.new).sends ≡ (view_of end.old).sends - S.sends)
@@ -94,7 +103,7 @@ impl<T: Drop> Channel<T> {
         if end.rights < u64::MAX {
             end.rights -= 1;
         }
-        end_at(chair, at)
+        end_at(chair, at, end.behind)
     }
 
     /// Counts for one sender more. It is `false` if there are so many that they cannot be counted.
@@ -102,7 +111,7 @@ impl<T: Drop> Channel<T> {
         requires channel { IsEndOf self.now end.old }
         requires sender { 0 < (view_of end.old).sends }
         ensures chair { (end.new.chair.table_id ≡ end.old.chair.table_id)
-            × (end.new.inside ≡ end.old.inside) }
+            × (end.new.inside ≡ end.old.inside) × (end.new.behind ≡ end.old.behind) }
         ensures view { result ≡ true → view_of end.new ≡ hires_sender (view_of end.old) }
         ensures same { result ≡ false → view_of end.new ≡ view_of end.old }
     {
@@ -124,7 +133,8 @@ impl<T: Drop> Channel<T> {
     fn hire_receiver<R: Wait>(&self, rt: &R, receiver: &mut Receiver<T>) -> bool
         requires channel { IsEndOf self.now receiver.old.end }
         ensures chair { (receiver.new.end.chair.table_id ≡ receiver.old.end.chair.table_id)
-            × (receiver.new.end.inside ≡ receiver.old.end.inside) }
+            × (receiver.new.end.inside ≡ receiver.old.end.inside)
+            × (receiver.new.end.behind ≡ receiver.old.end.behind) }
         ensures view { result ≡ true
             → view_of receiver.new.end ≡ hires_receiver (view_of receiver.old.end) }
         ensures same { result ≡ false → view_of receiver.new.end ≡ view_of receiver.old.end }
@@ -154,7 +164,7 @@ impl<T: Drop> Channel<T> {
     {
         let (list, chair) = List::new(alloc)?;
         let channel = Channel { list, alloc };
-        let mut end = end_at(chair, 0);
+        let mut end = end_at(chair, 0, false);
         // No other end is there, so the ends count for one.
         if channel.count(&mut end, 1) != 1 {
             return Err(AllocError);
@@ -169,6 +179,8 @@ impl<T: Drop> Channel<T> {
         ensures channel { IsEndOf self.now sender.new.end }
         ensures logs { log_of sender.new.end ≡ log_of sender.old.end }
         ensures told { StaysTold (view_of sender.old.end) (view_of sender.new.end) }
+        ensures behind { IsBehind sender.old.end
+            → IsBehind sender.new.end × IfSome result (λ s. IsBehind s.end) }
         ensures given { given_to sender.new.end ≡ given_to sender.old.end }
         ensures new { IfSome result (λ s. IsEndOf self.now s.end × IsFresh s.end) }
     {
@@ -192,6 +204,8 @@ impl<T: Drop> Channel<T> {
         ensures channel { IsEndOf self.now receiver.new.end }
         ensures logs { log_of receiver.new.end ≡ log_of receiver.old.end }
         ensures told { StaysTold (view_of receiver.old.end) (view_of receiver.new.end) }
+        ensures behind { IsBehind receiver.old.end
+            → IsBehind receiver.new.end × IfSome result (λ r. IsBehind r.end) }
         ensures given { given_to receiver.new.end ≡ given_to receiver.old.end }
         ensures new { IfSome result (λ r. IsEndOf self.now r.end × IsFresh r.end) }
     {

@@ -19,6 +19,7 @@ const TRIES: u32 = 4;
 pub struct Leaving<T: Drop> {
     pub(crate) debtor: Debtor<T>,
     ghost takes: { (view_in debtor.chair).takes ≡ true },
+    ghost sends: { (view_in debtor.chair).sends ≡ 0 },
     ghost receives: { 0 < (view_in debtor.chair).receives },
 }
 
@@ -26,6 +27,7 @@ pub struct Leaving<T: Drop> {
 pub struct Asleep<T: Drop> {
     pub(crate) debtor: Debtor<T>,
     ghost takes: { (view_in debtor.chair).takes ≡ true },
+    ghost sends: { (view_in debtor.chair).sends ≡ 0 },
     ghost receives: { 0 < (view_in debtor.chair).receives },
     ghost sleeps: { Sleeps debtor.busy },
 }
@@ -49,8 +51,8 @@ pub enum Polled<T: Drop> {
 }
 
 impl<T: Drop> Channel<T> {
-    ghost use Rattle.mb_channel.specs.Ends.{IsEndOf};
-    ghost use Rattle.mb_channel.specs.Polls.{FoundEmpty, IfSleeps, OfPolled};
+    ghost use Rattle.mb_channel.specs.Ends.{IsBehind, IsEndOf};
+    ghost use Rattle.mb_channel.specs.Polls.{FoundEmpty, IfSleeps, OfPolled, TellsClosed};
     ghost use Rattle.mb_channel.specs.Standing.{stand_of};
     ghost use Rattle.mb_channel.specs.Wakes.{Tells, after_polled, wakes_of};
 
@@ -61,6 +63,7 @@ impl<T: Drop> Channel<T> {
         ensures answer { OfPolled result (stand_of receiver.end) }
         ensures wakes { Tells 0 (wakes_of receiver.end) (after_polled result) }
         ensures saw { IfSleeps result (λ a. FoundEmpty receiver.end a.debtor) }
+        ensures still { IsBehind receiver.end → TellsClosed result }
     {
         let Receiver { mut end } = receiver;
         for _ in 0..TRIES {
@@ -174,6 +177,7 @@ impl<T: Drop> Debtor<T> {
     /// What a receiver answers after its look.
     fn answer(self, heard: Heard<T>) -> Polled<T>
         requires takes { (view_in self.chair).takes ≡ true }
+        requires sends { (view_in self.chair).sends ≡ 0 }
         requires receives { 0 < (view_in self.chair).receives }
         requires sleeps { IfAsleep heard (Sleeps self.busy) }
         ensures answer { (v : Standing T) → OfLook heard v self → OfPolled result v }
@@ -194,6 +198,7 @@ impl<T: Drop> Debtor<T> {
     /// The answer of a receiver that received nothing, and does not sleep.
     fn not_yet(self) -> Polled<T>
         requires takes { (view_in self.chair).takes ≡ true }
+        requires sends { (view_in self.chair).sends ≡ 0 }
         requires receives { 0 < (view_in self.chair).receives }
         ensures answer { (v : Standing T) → NoMore v (stand_with self) → OfPolled result v }
         ensures wakes { Tells 0 (wakes_with self) (after_polled result) }

@@ -1,5 +1,6 @@
 //! The calls that receive.
-ghost use Rattle.std.specs.Prelude.{◌≡◌, ◌⊎◌, ◌++◌, ◌∷◌, [], IfErr, IfNone, IfOk, IfSome, OnErr};
+ghost use Rattle.std.specs.Prelude.{◌≡◌, ◌⊎◌, ◌++◌, ◌∷◌, [], Err, IfErr, IfNone, IfOk, IfSome, OnErr};
+ghost use Rattle.mb_channel.specs.declared.channel.Refused.TheVariants.{Closed};
 ghost use Rattle.mb_channel.specs.Answers.{IfClosed};
 ghost use Rattle.mb_channel.specs.Ends.{IsBehind, IsEndOf, IsOver, IsSame, got_by, sent_by};
 ghost use Rattle.mb_channel.specs.Receives.{FoundNone, OfTried, SawEmpty};
@@ -26,6 +27,7 @@ impl<T: Drop> Channel<T> {
             ≡ got_by receiver.old.end ++ x ∷ []) }
         ensures none { OnErr result (got_by receiver.new.end ≡ got_by receiver.old.end) }
         ensures closed { IfErr result (λ why. IfClosed why (IsBehind receiver.new.end)) }
+        ensures still { IsBehind receiver.old.end → result ≡ Err Closed }
         ensures sent { sent_by receiver.new.end ≡ sent_by receiver.old.end }
     {
         match receiver.end.receive(rt) {
@@ -45,6 +47,7 @@ impl<T: Drop> Channel<T> {
             ≡ got_by receiver.old.end ++ x ∷ []) }
         ensures none { OnErr result (got_by receiver.new.end ≡ got_by receiver.old.end) }
         ensures closed { IfErr result (λ why. IfClosed why (IsBehind receiver.new.end)) }
+        ensures still { IsBehind receiver.old.end → result ≡ Err Closed }
         ensures sent { sent_by receiver.new.end ≡ sent_by receiver.old.end }
     {
         let mut stuck = 0;
@@ -77,6 +80,7 @@ impl<T: Drop> Channel<T> {
             × (got_by receiver.new.end ≡ got_by receiver.old.end))) }
         ensures none { OnErr result (got_by receiver.new.end ≡ got_by receiver.old.end) }
         ensures closed { IfErr result (λ why. IfClosed why (IsBehind receiver.new.end)) }
+        ensures still { IsBehind receiver.old.end → result ≡ Err Closed }
         ensures sent { sent_by receiver.new.end ≡ sent_by receiver.old.end }
     {
         let mut stuck = 0;
@@ -107,6 +111,7 @@ impl<T: Drop> Channel<T> {
             (got_by receiver.new.end ≡ got_by receiver.old.end)) }
         ensures none { OnErr result (got_by receiver.new.end ≡ got_by receiver.old.end) }
         ensures closed { IfErr result (λ why. IfClosed why (IsBehind receiver.new.end)) }
+        ensures still { IsBehind receiver.old.end → result ≡ Err Closed }
         ensures sent { sent_by receiver.new.end ≡ sent_by receiver.old.end }
         ensures wakes { Tells 0 (wakes_of receiver.old.end) (wakes_of receiver.new.end) }
     {

@@ -1,7 +1,8 @@
 //! The calls that send.
-ghost use Rattle.std.specs.Prelude.{◌≡◌, ◌++◌, ◌∷◌, [], true, IfErr, OnOk};
+ghost use Rattle.std.specs.Prelude.{◌≡◌, ◌++◌, ◌∷◌, [], true, IfErr, IsErrAnd, OnOk};
+ghost use Rattle.mb_channel.specs.declared.channel.Refused.TheVariants.{Closed};
 ghost use Rattle.mb_channel.specs.Answers.{IfClosed};
-ghost use Rattle.mb_channel.specs.Ends.{IsEndOf, IsSame, SawOver, got_by, sent_by, view_of};
+ghost use Rattle.mb_channel.specs.Ends.{IsBehind, IsEndOf, IsSame, SawOver, got_by, sent_by, view_of};
 
 use crate::channel::{Channel, Refused};
 use crate::end::Sender;
@@ -25,8 +26,9 @@ impl<T: Drop> Channel<T> {
             ≡ sent_by sender.old.end ++ value ∷ []) }
         ensures back { IfErr result (λ e. (e.value ≡ value)
             × (sent_by sender.new.end ≡ sent_by sender.old.end)) }
-        ensures closed { IfErr result (λ e.
-            IfClosed e.why ((view_of sender.new.end).shut ≡ true)) }
+        ensures closed { IfErr result (λ e. IfClosed e.why
+            (IsBehind sender.new.end × ((view_of sender.new.end).shut ≡ true))) }
+        ensures still { IsBehind sender.old.end → IsErrAnd result (λ e. e.why ≡ Closed) }
         ensures got { got_by sender.new.end ≡ got_by sender.old.end }
     {
         match sender.end.send(rt, value) {
@@ -51,8 +53,9 @@ impl<T: Drop> Channel<T> {
             ≡ sent_by sender.old.end ++ value ∷ []) }
         ensures back { IfErr result (λ e. (e.value ≡ value)
             × (sent_by sender.new.end ≡ sent_by sender.old.end)) }
-        ensures closed { IfErr result (λ e.
-            IfClosed e.why ((view_of sender.new.end).shut ≡ true)) }
+        ensures closed { IfErr result (λ e. IfClosed e.why
+            (IsBehind sender.new.end × ((view_of sender.new.end).shut ≡ true))) }
+        ensures still { IsBehind sender.old.end → IsErrAnd result (λ e. e.why ≡ Closed) }
         ensures got { got_by sender.new.end ≡ got_by sender.old.end }
     {
         let mut value = value;

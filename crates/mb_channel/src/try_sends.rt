@@ -31,8 +31,8 @@ pub enum Sending<T: Drop> {
 }
 
 impl<T: Drop> Channel<T> {
-    ghost use Rattle.mb_channel.specs.Ends.{IsEndOf};
-    ghost use Rattle.mb_channel.specs.Standing.{OfSending, stand_of};
+    ghost use Rattle.mb_channel.specs.Ends.{IsBehind, IsEndOf};
+    ghost use Rattle.mb_channel.specs.Standing.{OfSending, TellsClosed, stand_of};
     ghost use Rattle.mb_channel.specs.Wakes.{Tells, after_sending, wakes_of};
 
     /// Tries to send a value, behind all that the sender sent before. It makes a few accesses, and wakes nobody.
@@ -40,6 +40,7 @@ impl<T: Drop> Channel<T> {
         requires channel { IsEndOf self.now sender.end }
         ensures answer { OfSending result value (stand_of sender.end) }
         ensures wakes { Tells 0 (wakes_of sender.end) (after_sending result) }
+        ensures still { IsBehind sender.end → TellsClosed result }
     {
         let Sender { mut end } = sender;
         let mut value = value;

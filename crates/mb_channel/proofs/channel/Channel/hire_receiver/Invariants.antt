@@ -8,3 +8,4 @@ invariant-loop g l =
     × (l.receiver.end.chair.table_id ≡ l.initial.receiver.end.chair.table_id)
     × (view_of l.receiver.end ≡ view_of l.initial.receiver.end)
     × (l.receiver.end.inside ≡ l.initial.receiver.end.inside)
+    × (l.receiver.end.behind ≡ l.initial.receiver.end.behind)

@@ -7,3 +7,4 @@ invariant-loop g l =
     (goal.iterator-loop g).can_next l.iterator' × (goal.iterator-loop g).is_finite l.iterator'
     × (l.end.chair.table_id ≡ l.initial.end.chair.table_id)
     × (view_of l.end ≡ view_of l.initial.end) × (l.end.inside ≡ l.initial.end.inside)
+    × (l.end.behind ≡ l.initial.end.behind)

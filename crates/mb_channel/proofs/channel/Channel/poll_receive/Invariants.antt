@@ -1,4 +1,4 @@
-use Rattle.mb_channel.specs.Ends.{view_of}
+use Rattle.mb_channel.specs.Ends.{IsBehind, view_of}
 use Rattle.mb_channel.specs.Receives.{IsLater}
 use Rattle.mb_channel.specs.Standing.{NoMore, stand_of}
 use Rattle.mb_channel.specs.Wakes.{Tells, wakes_of}
@@ -9,3 +9,4 @@ abbrev pub invariant-loop : goal.invariant-loop
 invariant-loop g l =
     NoMore (stand_of l.initial.end) (stand_of l.end) × IsLater l.initial.end l.end × ((view_of l.end).takes ≡ true)
     × Tells 0 (wakes_of l.initial.end) (wakes_of l.end)
+    × (IsBehind l.initial.end → IsBehind l.end × (l.counter ≡ 0))

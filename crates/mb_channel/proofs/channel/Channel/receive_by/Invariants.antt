@@ -1,5 +1,5 @@
 use Rattle.std.proofs.Common.{◌≡◌}
-use Rattle.mb_channel.specs.Ends.{IsSame, got_by, sent_by}
+use Rattle.mb_channel.specs.Ends.{IsBehind, IsSame, got_by, sent_by}
 use Rattle.mb_channel.specs.Receives.{IsLater}
 use Rattle.mb_channel.proofs.channel.Channel.receive_by.Given as goal
 
@@ -10,3 +10,4 @@ invariant-loop g l =
     × IsLater l.initial.receiver.end l.receiver.end
     × (sent_by l.receiver.end ≡ sent_by l.initial.receiver.end)
     × (got_by l.receiver.end ≡ got_by l.initial.receiver.end)
+    × (IsBehind l.initial.receiver.end → IsBehind l.receiver.end)
