@@ -152,7 +152,7 @@ draw_room f d zero n r r' t a look open_ more L O C L' O' C' l o c le q h =
       ⊎_elim (λ y. inl (omega arith)) (λ y. inr (omega arith)) q,
       ⊎_elim (λ y. inl (omega arith)) (λ y. inr (omega arith)) h,
     )
-draw_room f d (suc m) n r r' t a look open_ more = absurd (omega arith)
+draw_room f d (suc m) n r r' t a look open_ more L O C L' O' C' l o c le q h = absurd (omega arith)
 
 module _ {T : Type 0} where
   draws_one : (f : Duty → Duty) (x : T) (slots i : ℕ) (me : Sat T) (old new : ℕ) → IsLook f me.0.duty.room

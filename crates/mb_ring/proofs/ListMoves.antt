@@ -46,6 +46,13 @@ IsRight f d old new = (m n : ℕ) → m + 4294967296 * n ≡ old → m < 4294967
     → (t : ℕ) × (a : ℕ) × (new ≡ t + 4294967296 * a) × (t < 4294967296)
     × (in_list (f d) + (m + n) ≡ in_list d + (t + a)) × ((r z : ℕ) → Law d (f d) r r z z m t a)
 
+list_narrow : (q p : Want) (g : Want → ℕ) (t : ℕ) → t < 4294967296 → ((o : Want) → g o < 4294967296)
+    → put q t g p < 4294967296
+list_narrow Values Values g t lt all = lt
+list_narrow Values Room g t lt all = all Room
+list_narrow Room Values g t lt all = all Values
+list_narrow Room Room g t lt all = lt
+
 module _ {T : Type 0} (s : St T) (k : Keeps s) (q : Want) (v : View T) (f : Duty → Duty) (t a new : ℕ) where
   abbrev set_list : Next T
   set_list = record (now s k) {
@@ -65,13 +72,6 @@ module _ {T : Type 0} where
   list_words s k Room t a new is = ap (λ l. slice_set l 3 new) k.words
       ∙ ap (λ r. (drawn k.history + 9223372036854775808 * k.cut) ∷ taken k.history
       ∷ (k.tokens Values + 4294967296 * k.waiting Values) ∷ r ∷ k.states) is
-
-  list_narrow : (q p : Want) (g : Want → ℕ) (t : ℕ) → t < 4294967296 → ((o : Want) → g o < 4294967296)
-      → put q t g p < 4294967296
-  list_narrow Values Values g t lt all = lt
-  list_narrow Values Room g t lt all = all Room
-  list_narrow Room Values g t lt all = all Values
-  list_narrow Room Room g t lt all = lt
 
   list_counts : (s : St T) (k : Keeps s) (q : Want) (v : View T) (f : Duty → Duty) (t a new : ℕ)
       → in_list (f (part q v.duty)) + (k.tokens q + k.waiting q) ≡ in_list (part q v.duty) + (t + a)

@@ -8,7 +8,7 @@ use Rattle.mb_ring.specs.Vocabulary.{in_list, list_word, member, no_duties, on, 
 use Rattle.mb_segment.specs.Passes.{no_duty}
 use Rattle.mb_ring.proofs.Sleep.{Law}
 use Rattle.mb_ring.proofs.Halves.{no_part}
-use Rattle.mb_ring.proofs.Kept.{St, after, now, settled, one_owes, one_listed}
+use Rattle.mb_ring.proofs.Kept.{St, after, at_rest, now, one_listed, one_owes, settled}
 use lib.Seq.{set-get_or}
 
 module _ {T : Type 0} where
