@@ -6,7 +6,7 @@ use Rattle.mb_segment.proofs.Base.{⊎_elim, ◌*◌, ◌++◌, ◌+◌, ◌-◌
 use Rattle.mb_segment.specs.Vocabulary.{Claim, Duty, Entry, Half, HalfFits, HasHalf, History, Homes, In}
 use Rattle.mb_segment.specs.Vocabulary.{Keeps, Member, Nothing, Reads, Sat, Taken, Undrawn, View, Waiting}
 use Rattle.mb_segment.specs.Vocabulary.{Writes, all_entries, claiming, done, drawn, entries, free}
-use Rattle.mb_segment.specs.Vocabulary.{got_by, looked, spot, spots_by, taken, took, with_duty}
+use Rattle.mb_segment.specs.Vocabulary.{got_by, looked, row, spot, spots_by, taken, took, with_duty}
 use Rattle.mb_segment.proofs.Spots.{below_length, entries_append, entry_of, heard_claim, size_set, snoc_at, to_other}
 use Rattle.mb_segment.proofs.Spots.{to_own}
 use Rattle.mb_segment.proofs.Halves.{half_else, half_here, match_kept, may_take, no_hub, no_reads, no_spent, no_writes}
@@ -130,12 +130,12 @@ module _ {T : Type 0} where
   first_of : (f : Duty → Duty) (slots n : ℕ) (me : Sat T) (old new : ℕ) → IsLook f me.0.duty → me.0.role ≡ Member
       → me.0.half ≡ Nothing → me.0.sight.ripe ≡ Some old → new ≡ old + 1
       → (s : St T) (k : Keeps s) → length s.homes ≡ slots → get_elem? s.views n ≡ some me.0
-      → slice_index s.words 1 ≡ old
+      → slice_index s.words 8 ≡ old
       → (rest' : List (Entry T)) → k.history.rest ≡ rest'
-      → Goes s 1 n me (claiming f (step slots 1 old new none) me) new
+      → Goes s 8 n me (claiming f (step slots 8 old new none) me) new
   first_of f slots n me old new look role idle ripe is s k homes at e [] none_there =
       let r = (k.fits n me.0 at).ripe old ripe in
-      let now_ : slice_index s.words 1 ≡ taken k.history = at1 s k in
+      let now_ : slice_index s.words 8 ≡ taken k.history = at1 s k in
       let z : length k.history.rest ≡ 0 = ap length none_there in
       absurd (r.1 (k.undrawn old (omega arith) r.0).0)
   first_of f slots n me old new look role idle ripe is s k homes at e (b ∷ bs) first =
@@ -162,7 +162,7 @@ module _ {T : Type 0} where
       = ap (λ (m : ℕ). free k.cut (length k.states - m)) sd in
       let x' : Next T = record {
         history = g;
-        words = slice_set s.words 1 new;
+        words = slice_set s.words 8 new;
         states = k.states;
         homes = slice_set s.homes old none;
         tokens = k.tokens;
@@ -173,9 +173,9 @@ module _ {T : Type 0} where
         takes old (Some b.value),
         home.1,
         moved s k n v w x' at record {
-          words = ap (λ l. slice_set l 1 new) k.words
-              ∙ (λ i. (sym sd i + 9223372036854775808 * k.cut) ∷ next i ∷
-              (k.tokens + 4294967296 * k.waiting) ∷ k.states);
+          words = ap (λ l. slice_set l 8 new) k.words
+              ∙ (λ i. row (sym sd i + 9223372036854775808 * k.cut) (next i)
+              (k.tokens + 4294967296 * k.waiting) k.states);
           narrow = k.narrow;
           sized = omega arith;
           as_many = refl;
@@ -230,22 +230,22 @@ module _ {T : Type 0} where
 
   claims_as : (f : Duty → Duty) (slots n : ℕ) (me : Sat T) (old new : ℕ) → IsLook f me.0.duty → me.0.role ≡ Member
       → me.0.half ≡ Nothing → me.0.sight.ripe ≡ Some old → new ≡ old + 1
-      → Allows Keeps slots n me 1 (λ r. either (r == old) new r) (claiming f (step slots 1 old new none) me)
+      → Allows Keeps slots n me 8 (λ r. either (r == old) new r) (claiming f (step slots 8 old new none) me)
   claims_as f slots n me old new look role idle ripe is =
-      exchanges 1 (claiming f (step slots 1 old new none) me) slots n me old new
+      exchanges 8 (claiming f (step slots 8 old new none) me) slots n me old new
       (λ s k homes at e. first_of f slots n me old new look role idle ripe is s k homes at e k.history.rest refl)
       (λ r ne. ((λ e. absurd (ne e)), λ _. (refl, refl)))
 
   pub claims : (slots n : ℕ) (me : Sat T) (old new : ℕ) → me.0.role ≡ Member → me.0.half ≡ Nothing
       → me.0.sight.ripe ≡ Some old
-      → new ≡ old + 1 → Allows Keeps slots n me 1 (λ r. either (r == old) new r)
-      (claiming looked (step slots 1 old new none) me)
+      → new ≡ old + 1 → Allows Keeps slots n me 8 (λ r. either (r == old) new r)
+      (claiming looked (step slots 8 old new none) me)
   claims slots n me old new role idle ripe is =
       claims_as looked slots n me old new (refl, refl, omega arith, refl) role idle ripe is
 
   pub claims_listed : (slots n : ℕ) (me : Sat T) (old new : ℕ) → 0 < me.0.duty.fresh → me.0.role ≡ Member
       → me.0.half ≡ Nothing
       → me.0.sight.ripe ≡ Some old → new ≡ old + 1
-      → Allows Keeps slots n me 1 (λ r. either (r == old) new r) (claiming done (step slots 1 old new none) me)
+      → Allows Keeps slots n me 8 (λ r. either (r == old) new r) (claiming done (step slots 8 old new none) me)
   claims_listed slots n me old new fresh role idle ripe is =
       claims_as done slots n me old new (omega arith, refl, omega arith, refl) role idle ripe is

@@ -9,7 +9,7 @@ use Rattle.mb_segment.specs.Vocabulary.{Duty, Entry, Half, HalfFits, HasHalf, Hi
 use Rattle.mb_segment.specs.Vocabulary.{Member, Nothing, Reads, Sat, Taken, Undrawn, View, Waiting, Writes}
 use Rattle.mb_segment.specs.Vocabulary.{all_entries, asking, did_cut, drawing, drawing_picked, drawn, drew}
 use Rattle.mb_segment.specs.Vocabulary.{entries, exchanging, owes_all, owes_wake, seeing_cut, sees_cut}
-use Rattle.mb_segment.specs.Vocabulary.{sees_full, sent_by, spot, spots_by, taken, with_duty}
+use Rattle.mb_segment.specs.Vocabulary.{row, sees_full, sent_by, spot, spots_by, taken, with_duty}
 use Rattle.mb_segment.proofs.Spots.{all_length, below_length, by_other, by_own, heard_draw, same_some, size_set, snoc_at}
 use Rattle.mb_segment.proofs.Halves.{free_open, free_shut, half_else, half_here, match_kept, may_send, no_hub, no_reads}
 use Rattle.mb_segment.proofs.Halves.{no_spent, no_writes, uncut}
@@ -159,7 +159,7 @@ module _ {T : Type 0} where
         (k.undrawn old (omega arith) fits_).1,
         moved s k n v w x' at record {
           words = ap (λ l. slice_set l 0 new) k.words ∙ ap
-              (λ r. r ∷ taken h ∷ (k.tokens + 4294967296 * k.waiting) ∷ k.states) next;
+              (λ r. row r (taken h) (k.tokens + 4294967296 * k.waiting) k.states) next;
           narrow = k.narrow;
           sized = omega arith;
           as_many = refl;
@@ -279,7 +279,7 @@ module _ {T : Type 0} where
         tt,
         moved s k n v w x' at record {
           words = ap (λ l. slice_set l 0 new) k.words
-              ∙ ap (λ r. r ∷ taken h ∷ (k.tokens + 4294967296 * k.waiting) ∷ k.states) (omega arith);
+              ∙ ap (λ r. row r (taken h) (k.tokens + 4294967296 * k.waiting) k.states) (omega arith);
           narrow = k.narrow;
           sized = k.sized;
           as_many = refl;

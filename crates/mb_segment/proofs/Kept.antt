@@ -7,7 +7,7 @@ use Rattle.mb_segment.proofs.Base.{◌-◌, ◌<◌, ◌==◌, ◌∙◌, ◌∷
 use Rattle.mb_segment.specs.Vocabulary.{Account, AllHeed, Duty, Fits, Half, HalfFits, HasHalf, History, Homes, Keeps, Known}
 use Rattle.mb_segment.specs.Vocabulary.{Match, Member, Quiet, Reads, Sat, Shut, Sight, Taken, Undrawn, View, Waiting}
 use Rattle.mb_segment.specs.Vocabulary.{Writes, closing, cuts_by, drawn, free, got_by, has_cut, if_hub, listed, member, no_duty}
-use Rattle.mb_segment.specs.Vocabulary.{Tokens, one_if_member, out, owed, sent_by, sleeping, spot, taken, tokens_given, tokens_taken, total}
+use Rattle.mb_segment.specs.Vocabulary.{Tokens, one_if_member, out, owed, row, sent_by, sleeping, spot, taken, tokens_given, tokens_taken, total}
 use Rattle.mb_segment.proofs.Totals.{asleep_listed, length_set, there, total_set}
 use lib.Seq.{set-get_or}
 
@@ -57,8 +57,8 @@ module _ {T : Type 0} where
 
   pub record Keeping (s : St T) (k : Keeps s) (n : ℕ) (v w : View T) (x : Next T) : Type 0 where
     pub words : x.words
-        ≡ (drawn x.history + 9223372036854775808 * x.cut) ∷ taken x.history ∷
-        (x.tokens + 4294967296 * x.waiting) ∷ x.states
+        ≡ row (drawn x.history + 9223372036854775808 * x.cut) (taken x.history)
+        (x.tokens + 4294967296 * x.waiting) x.states
     pub narrow : x.tokens < 4294967296
     pub sized : length x.states ≡ length x.homes
     pub as_many : length x.states ≡ length k.states
@@ -217,8 +217,8 @@ module _ {T : Type 0} where
 
   pub record Steady (s : St T) (k : Keeps s) (n : ℕ) (v w : View T) (x : Next T) : Type 0 where
     pub words : x.words
-        ≡ (drawn k.history + 9223372036854775808 * k.cut) ∷ taken k.history ∷
-        (x.tokens + 4294967296 * x.waiting) ∷ k.states
+        ≡ row (drawn k.history + 9223372036854775808 * k.cut) (taken k.history)
+        (x.tokens + 4294967296 * x.waiting) k.states
     pub narrow : x.tokens < 4294967296
     pub counted : listed w + (k.tokens + k.waiting) ≡ listed v + (x.tokens + x.waiting)
     pub given : tokens_given w + (k.tokens + tokens_taken v) ≡ tokens_given v + (x.tokens + tokens_taken w)
@@ -386,8 +386,8 @@ module _ {T : Type 0} where
   pub at0 : (s : St T) (k : Keeps s) → slice_index s.words 0 ≡ drawn k.history + 9223372036854775808 * k.cut
   at0 s k = ap (λ l. slice_index l 0) k.words
 
-  pub at1 : (s : St T) (k : Keeps s) → slice_index s.words 1 ≡ taken k.history
-  at1 s k = ap (λ l. slice_index l 1) k.words
+  pub at1 : (s : St T) (k : Keeps s) → slice_index s.words 8 ≡ taken k.history
+  at1 s k = ap (λ l. slice_index l 8) k.words
 
-  pub at2 : (s : St T) (k : Keeps s) → slice_index s.words 2 ≡ k.tokens + 4294967296 * k.waiting
-  at2 s k = ap (λ l. slice_index l 2) k.words
+  pub at2 : (s : St T) (k : Keeps s) → slice_index s.words 1 ≡ k.tokens + 4294967296 * k.waiting
+  at2 s k = ap (λ l. slice_index l 1) k.words

@@ -42,15 +42,15 @@ mark_below (Some j) r all = let l = all j refl in omega arith
 
 module _ {T : Type 0} where
   pub sees_taken_at : (slots n : ℕ) (me : Sat T)
-      → Allows Keeps slots n me 1 (λ r. r) (seeing_taken (step slots 1 0 0 none) me)
+      → Allows Keeps slots n me 8 (λ r. r) (seeing_taken (step slots 8 0 0 none) me)
   sees_taken_at slots n me s k homes at small =
       let now_ = at1 s k in
-      let r = slice_index s.words 1 in
+      let r = slice_index s.words 8 in
       let fit = k.fits n me.0 at in (
         sees_taken r me.0,
         keeps,
         tt,
-        loaded s 1 n me.1 (sees_taken r me.0) (settled s k n me.0 (sees_taken r me.0) at refl refl refl refl refl
+        loaded s 8 n me.1 (sees_taken r me.0) (settled s k n me.0 (sees_taken r me.0) at refl refl refl refl refl
             (sighted k.history k.states k.cut k.hub k.roll n me.0 record me.0.sight { low = r } fit
             (omega arith) fit.ripe fit.full fit.cut_ fit.empty)
             (at_rest s k me.0 (sees_taken r me.0) refl)),

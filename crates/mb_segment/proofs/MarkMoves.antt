@@ -103,7 +103,7 @@ module _ {T : Type 0} (s : St T) (k : Keeps s) (n : ℕ) (v w : View T) (at : ge
       go (no apart) = λ z. ne (sym (set_else k.states p.at j 1 apart) ∙ z)
 
 module _ {T : Type 0} where
-  pub marks : (slots n : ℕ) (me : Sat T) (i : ℕ) (p : Spot T) → i ≡ p.at + 3 → me.0.role ≡ Member → me.0.half
+  pub marks : (slots n : ℕ) (me : Sat T) (i : ℕ) (p : Spot T) → i ≡ p.at + 9 → me.0.role ≡ Member → me.0.half
       ≡ Writes p
       → me.1 ≡ (p.at, Some p.value) ∷ rest me.1
       → Allows Keeps slots n me i (λ _. 1) (λ _. ending (step slots i 1 0 none) me 1)
@@ -111,7 +111,7 @@ module _ {T : Type 0} where
       let v = me.0 in
       let w = ended v in
       let fit = k.fits n v at in
-      let ii : i ≡ suc (suc (suc p.at)) = omega arith in
+      let ii : i ≡ suc (suc (suc (suc (suc (suc (suc (suc (suc p.at)))))))) = omega arith in
       let given : homes_after s.homes me.1 gives ≡ slice_set s.homes p.at (some (Some p.value))
       = ap (λ (c : List (ℕ × Option T)). homes_after s.homes c gives) held in
       let many₀ = size_set k.states p.at 1 in
@@ -191,7 +191,7 @@ module _ {T : Type 0} where
 
 -- ---- a look at a mark
 module _ {T : Type 0} where
-  sees_at : (slots n : ℕ) (me : Sat T) (i p : ℕ) → i ≡ p + 3 → p < slots → p ≤ me.0.sight.low → (s : St T)
+  sees_at : (slots n : ℕ) (me : Sat T) (i p : ℕ) → i ≡ p + 9 → p < slots → p ≤ me.0.sight.low → (s : St T)
       (k : Keeps s)
       → length s.homes ≡ slots
       → get_elem? s.views n ≡ some me.0 → Dec (slice_index s.words i ≡ 0)
@@ -201,7 +201,7 @@ module _ {T : Type 0} where
   sees_at slots n me i p is room low s k homes at (no some_) =
       let many = k.sized in
       let fit = k.fits n me.0 at in
-      let ii : i ≡ suc (suc (suc p)) = omega arith in
+      let ii : i ≡ suc (suc (suc (suc (suc (suc (suc (suc (suc p)))))))) = omega arith in
       let same_ : slice_index s.words i ≡ slice_index k.states p = λ r. slice_index (k.words r) (ii r) in (
         sees_mark p me.0,
         keeps,
@@ -219,7 +219,7 @@ module _ {T : Type 0} where
         ((λ _. (refl, refl)), λ e. absurd (some_ e)),
       )
 
-  pub sees_marks : (slots n : ℕ) (me : Sat T) (i p : ℕ) → i ≡ p + 3 → p < slots → p ≤ me.0.sight.low
+  pub sees_marks : (slots n : ℕ) (me : Sat T) (i p : ℕ) → i ≡ p + 9 → p < slots → p ≤ me.0.sight.low
       → Allows Keeps slots n me i (λ r. r) (seeing_mark p (step slots i 0 0 none) me)
   sees_marks slots n me i p is room low s k homes at small =
       sees_at slots n me i p is room low s k homes at (ℕ_discrete (slice_index s.words i) 0)

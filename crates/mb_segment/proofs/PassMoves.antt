@@ -6,7 +6,7 @@ use Rattle.mb_segment.proofs.Base.{◌++◌, ◌+◌, ◌-◌, ◌<◌, ◌∙�
 use Rattle.mb_segment.specs.Vocabulary.{Duty, Fits, Half, HasHalf, History, In, IsMember, Issuer, Keeps}
 use Rattle.mb_segment.specs.Vocabulary.{Match, Member, Nothing, Reads, Role, Spent, View, Writes, blank}
 use Rattle.mb_segment.specs.Vocabulary.{closing, if_hub, issued, listed, member, new_hub, no_duty}
-use Rattle.mb_segment.specs.Vocabulary.{one_if_member, out, owed, sleeping, spent, spot, tokens_given, tokens_taken, took_back, total}
+use Rattle.mb_segment.specs.Vocabulary.{one_if_member, out, owed, row, sleeping, spent, spot, tokens_given, tokens_taken, took_back, total}
 use Rattle.mb_segment.proofs.Totals.{below_total, length_set, length_snoc, one_in_total, snoc_cases, there}
 use Rattle.mb_segment.proofs.Totals.{total_set, total_snoc}
 use Rattle.mb_segment.proofs.Spots.{map_length, no_some, replicate_at, replicate_length}
@@ -51,7 +51,7 @@ module _ {T : Type 0} where
   unused = record { claims = []; rest = []; cutter = None }
 
   pub opens : (count : ℕ) → count < 4294967296
-      → Keeps (opening (0 ∷ 0 ∷ 0 ∷ replicate count 0) (empty_slots T count) new_hub)
+      → Keeps (opening (row 0 0 0 (replicate count 0)) (empty_slots T count) new_hub)
   opens count small =
       let m₀ : length {A = ℕ} (replicate count 0) ≡ count = replicate_length count 0 in
       let m₁ : length (empty_slots T count) ≡ count = replicate_length count None in

@@ -94,7 +94,7 @@ module _ {T : Type 0} (s : St T) (k : Keeps s) (n : ℕ) (v w : View T) (at : ge
       go (no apart) = λ z. ne (sym (set_else k.states p.at j 2 apart) ∙ z)
 
 module _ {T : Type 0} where
-  pub reads_end : (slots n : ℕ) (me : Sat T) (i : ℕ) (p : Spot T) → i ≡ p.at + 3 → me.0.role ≡ Member → me.0.half
+  pub reads_end : (slots n : ℕ) (me : Sat T) (i : ℕ) (p : Spot T) → i ≡ p.at + 9 → me.0.role ≡ Member → me.0.half
       ≡ Reads p
       → me.1 ≡ (p.at, None) ∷ rest me.1
       → Allows Keeps slots n me i (λ _. 2) (λ _. ending (step slots i 2 0 none) me 2)
@@ -102,7 +102,7 @@ module _ {T : Type 0} where
       let v = me.0 in
       let w = ended v in
       let fit = k.fits n v at in
-      let ii : i ≡ suc (suc (suc p.at)) = omega arith in
+      let ii : i ≡ suc (suc (suc (suc (suc (suc (suc (suc (suc p.at)))))))) = omega arith in
       let given : homes_after s.homes me.1 gives ≡ slice_set s.homes p.at (some None)
       = ap (λ (c : List (ℕ × Option T)). homes_after s.homes c gives) held in
       let many₀ = size_set k.states p.at 2 in

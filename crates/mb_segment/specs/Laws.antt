@@ -13,7 +13,7 @@ abbrev pub drawn_in : {T : Type 0} → SegmentState T → ℕ
 drawn_in s = slice_index s.words 0 % 9223372036854775808
 
 abbrev pub claimed_in : {T : Type 0} → SegmentState T → ℕ
-claimed_in s = slice_index s.words 1
+claimed_in s = slice_index s.words 8
 
 -- the first word says that no more positions will be drawn: all are, or the top bit is set
 abbrev pub IsOver : {T : Type 0} → SegmentState T → Type 0

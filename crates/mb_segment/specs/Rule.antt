@@ -1,8 +1,8 @@
 -- The rule of a segment: its words, slots and views agree with one history.
--- Words: 0 how many positions are drawn, with the top bit once the segment is cut; 1 how many are claimed; 2 the list of
--- those that wait: in its low half the tokens that were given and not taken, in its high half those without a token; then
--- the state of each position.
-use Rattle.std.specs.Prelude.{List, Option, Some, [], false, length, true, ℕ, ◌+◌, ◌*◌, ◌-◌, ◌<◌, ◌∷◌, ◌≡◌, ◌≢◌, ◌≤◌}
+-- Words: 0 how many positions are drawn, with the top bit once the segment is cut; 1 the list of those that wait: in its
+-- low half the tokens that were given and not taken, in its high half those without a token; 8 how many positions are
+-- claimed; then the state of each position. Those between stay 0: senders and receivers write to lines of their own.
+use Rattle.std.specs.Prelude.{List, Option, Some, [], false, length, true, ℕ, ◌+◌, ◌*◌, ◌-◌, ◌<◌, ◌≡◌, ◌≢◌, ◌≤◌}
 use mathlib.Core.Option.{some}
 use lib.ListN.{get_elem?}
 use Rattle.atomic_table.specs.Table.{State}
@@ -11,7 +11,7 @@ use Rattle.mb_segment.specs.History.{History, cuts_by, drawn, got_by, has_cut, s
 use Rattle.mb_segment.specs.Passes.{Distinct, In, Match, member, no_duty, out}
 use Rattle.mb_segment.specs.Heard.{Heard}
 use Rattle.mb_segment.specs.Sleeping.{Quiet, Shut, closing, free, listed, owed, sleeping, tokens_given, tokens_taken, total}
-use Rattle.mb_segment.specs.Slots.{HalfFits, Taken, Undrawn, Waiting}
+use Rattle.mb_segment.specs.Slots.{HalfFits, Taken, Undrawn, Waiting, row}
 
 -- the view of a pass that is out: its account is the history's, and it is neither the hub nor one that came back
 pub record IsMember {T : Type 0} (h : History T) (hub : ℕ) (roll : List ℕ) (n : ℕ) (v : View T) : Type 0 where
@@ -50,7 +50,7 @@ pub record Keeps {T : Type 0} (s : State (Option T) (View T)) : Type 0 where
   pub tokens : ℕ
   pub waiting : ℕ
   pub cut : ℕ
-  pub words : s.words ≡ (drawn history + 9223372036854775808 * cut) ∷ taken history ∷ (tokens + 4294967296 * waiting) ∷ states
+  pub words : s.words ≡ row (drawn history + 9223372036854775808 * cut) (taken history) (tokens + 4294967296 * waiting) states
   pub narrow : tokens < 4294967296
   pub sized : length states ≡ length s.homes
   pub small : length states < 9223372036854775808

@@ -5,6 +5,7 @@ use Rattle.mb_segment.specs.Types.{Account, Spot, View}
 use Rattle.mb_segment.specs.History.{Claim, Entry, History, spot}
 use Rattle.mb_segment.specs.Passes.{blank, new_hub, no_duty}
 use Rattle.mb_segment.specs.Moves.{gives_token, owes_wake, sees_empty, with_duty}
+use Rattle.mb_segment.specs.Slots.{row}
 use Rattle.mb_segment.specs.Laws.{SegmentState}
 
 -- value x of pass n, and that it was claimed by pass r
@@ -50,17 +51,17 @@ sleeper = record blank { duty = record no_duty { asleep = 1 } }
 
 -- one position, and no pass was issued
 abbrev pub unused : ℕ → SegmentState ℕ
-unused word = record { words = word ∷ 0 ∷ 0 ∷ 0 ∷ []; homes = some None ∷ []; views = new_hub ∷ [] }
+unused word = record { words = row word 0 0 (0 ∷ []); homes = some None ∷ []; views = new_hub ∷ [] }
 
 -- the hub owes a wake
 abbrev pub unpaid : SegmentState ℕ
 unpaid =
-    record { words = 0 ∷ 0 ∷ 0 ∷ 0 ∷ []; homes = some None ∷ []; views = with_duty owes_wake new_hub ∷ [] }
+    record { words = row 0 0 0 (0 ∷ []); homes = some None ∷ []; views = with_duty owes_wake new_hub ∷ [] }
 
 -- one of two positions is drawn, for the value 10 of pass 1. Pass 2 sleeps without a token, and nobody owes anything
 abbrev pub overslept : SegmentState ℕ
 overslept = record {
-  words = 1 ∷ 0 ∷ 4294967296 ∷ 1 ∷ 0 ∷ [];
+  words = row 1 0 4294967296 (1 ∷ 0 ∷ []);
   homes = some (Some 10) ∷ some None ∷ [];
   views = record new_hub { out = 2 } ∷ saw 0 ∷ sleeper ∷ [];
 }
@@ -68,7 +69,7 @@ overslept = record {
 -- there is no position, pass 1 sleeps without a token, and nobody owes anything
 abbrev pub forgotten : SegmentState ℕ
 forgotten = record {
-  words = 0 ∷ 0 ∷ 4294967296 ∷ [];
+  words = row 0 0 4294967296 [];
   homes = [];
   views = record new_hub { out = 1 } ∷ sleeper ∷ [];
 }
@@ -76,7 +77,7 @@ forgotten = record {
 -- there is no position, pass 1 sleeps with a token, and pass 2 is the one that gave it or not
 abbrev pub woken : View ℕ → SegmentState ℕ
 woken giver = record {
-  words = 0 ∷ 0 ∷ 1 ∷ [];
+  words = row 0 0 1 [];
   homes = [];
   views = record new_hub { out = 2 } ∷ sleeper ∷ giver ∷ [];
 }

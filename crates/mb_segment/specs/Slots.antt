@@ -1,10 +1,14 @@
 -- What each position's state word and slot hold. A state is 0, 1 once the position is marked, 2 once it is read.
-use Rattle.std.specs.Prelude.{List, None, Option, Some, length, ℕ, ◌<◌, ◌≡◌, ◌≤◌, ◌⊎◌}
+use Rattle.std.specs.Prelude.{List, None, Option, Some, length, ℕ, ◌<◌, ◌∷◌, ◌≡◌, ◌≤◌, ◌⊎◌}
 use mathlib.Core.Option.{some}
 use mathlib.Core.Option as maybe
 use lib.ListN.{get_elem?}
 use Rattle.mb_segment.specs.Types.{Half, Nothing, Reads, View, Writes}
 use Rattle.mb_segment.specs.History.{Claim, Entry, History, all_entries, drawn, spot, taken}
+
+-- the words: how many are drawn, how many are claimed, the list, and the states
+abbrev pub row : ℕ → ℕ → ℕ → List ℕ → List ℕ
+row drawn taken list states = drawn ∷ list ∷ 0 ∷ 0 ∷ 0 ∷ 0 ∷ 0 ∷ 0 ∷ taken ∷ states
 
 -- the slots: none is out with a pass, some is at home and has a value or not
 abbrev pub Homes : Type 0 → Type 0

@@ -3,7 +3,7 @@ pub use Rattle.mb_segment.specs.Types.{Account, Duty, Half, Issuer, Known, Membe
 pub use Rattle.mb_segment.specs.History.{Claim, Entry, History, all_entries, cuts_by, drawn, entries, got_by, has_cut, is_of, sent_by, spot}
 pub use Rattle.mb_segment.specs.History.{spots_by, spots_to, taken, values}
 pub use Rattle.mb_segment.specs.Sleeping.{Quiet, Shut, closing, free, listed, owed, sleeping, tokens_given, tokens_taken, total}
-pub use Rattle.mb_segment.specs.Slots.{HalfFits, HasHalf, Homes, IsTaken, Taken, Undrawn, Waiting, Waits}
+pub use Rattle.mb_segment.specs.Slots.{HalfFits, HasHalf, Homes, IsTaken, Taken, Undrawn, Waiting, Waits, row}
 pub use Rattle.mb_segment.specs.Passes.{Distinct, In, Match, if_hub, nothing_done, one_if_member, blank, blind, member, new_hub, no_duty, no_tokens, out, spent}
 pub use Rattle.mb_segment.specs.Heard.{AllHeed, Heard, Heeds}
 pub use Rattle.mb_segment.specs.Rule.{Fits, IsHub, IsMember, Keeps}

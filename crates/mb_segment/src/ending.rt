@@ -21,7 +21,7 @@ impl<T: Drop, A: Allocator + Drop> Segment<T, A> {
         let Segment { table, size: _ } = self;
         let closed = table.close_with(seat);
         let drawn = closed.word(0) % CUT;
-        let taken = closed.word(1);
+        let taken = closed.word(8);
         Left {
             closed,
             at: taken as usize,

@@ -84,5 +84,5 @@ pub fn no_wake_up_is_lost<T>()
     ensures debtor { (s : SegmentState T) (k : Keeps s) (n : ℕ) (v : View T) → IsViewOf s n v
         → 0 < owed v + listed v → v.role ≡ Member }
     ensures given { (s : SegmentState T) (k : Keeps s) → total tokens_given s.views
-        ≡ slice_index s.words 2 % 4294967296 + total tokens_taken s.views }
+        ≡ slice_index s.words 1 % 4294967296 + total tokens_taken s.views }
 {}

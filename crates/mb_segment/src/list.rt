@@ -15,7 +15,7 @@ use std::time::{Clock, Duration, Instant};
 
 /// The word of the list: in its low half the tokens that were given and not taken, in its high half those that wait
 /// without a token.
-const LIST: usize = 2;
+const LIST: usize = 1;
 
 /// One that waits without a token, in the word of the list.
 pub(crate) const LISTED: u64 = 4294967296;

@@ -11,10 +11,11 @@ use crate::rule::{
 use crate::segment::{Pass, Segment};
 use std::alloc::Allocator;
 
-/// The words: how many positions are drawn, with the top bit once the segment is cut, and how many are claimed.
+/// The words: how many positions are drawn, with the top bit once the segment is cut, and how many are claimed. They are
+/// 64 bytes apart, since senders write the one and receivers the other.
 const DRAWN: usize = 0;
 
-const TAKEN: usize = 1;
+const TAKEN: usize = 8;
 
 /// The bit of the number drawn that says that the segment is cut.
 pub(crate) const CUT: u64 = 9223372036854775808;
@@ -22,9 +23,9 @@ pub(crate) const CUT: u64 = 9223372036854775808;
 /// The word of a position's state.
 pub(crate) fn state_of(at: u64) -> usize
     requires { at < 4294967296 }
-    ensures { result ≡ at + 3 }
+    ensures { result ≡ at + 9 }
 {
-    at as usize + 3
+    at as usize + 9
 }
 
 impl<T: Drop, A: Allocator + Drop> Segment<T, A> {
