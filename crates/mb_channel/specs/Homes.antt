@@ -120,7 +120,7 @@ first_view = record {
   alone = false;
   shut = false;
   last = None;
-  found = None;
+  found = 0;
 }
 
 abbrev pub spent_view : {T : Type 0} → Knows T
@@ -327,8 +327,9 @@ takes_lock {T} st m r n = (r ≡ 0 → (l : Homes T) × (hs : List (Home T)) × 
     × (n ≡ (locked hs m.0, (0, l) ∷ m.1)) × Finds hs m.0)
     × (r ≢ 0 → n ≡ m)
 
+-- no look is counted here
 abbrev pub gives_lock : {T : Type 0} → (Knows T → Knows T) → Step (Homes T) → Sat T → ℕ → Sat T → Type 0
-gives_lock f st m r n = (n.0 ≡ f (unlocked m.0)) × (n.1 ≡ [])
+gives_lock f st m r n = (n.0 ≡ f (unlocked m.0)) × (n.1 ≡ []) × (n.0.found ≡ m.0.found)
 
 -- giving the lock back keeps the rule, whatever the other ends do
 abbrev pub MayGive : {T : Type 0} → (Knows T → Knows T) → ℕ → ℕ → Sat T → Type 0

@@ -5,6 +5,9 @@ use crate::inside::Inside;
 use crate::list::List;
 use std::alloc::Global;
 
+/// How often a call that never waits leaves a segment or comes to one, at most.
+pub(crate) const TRIES: u32 = 4;
+
 /// Why a call could not be made. Nothing has changed.
 #[derive(Clone, Copy, PartialEq, Eq, Debug, Drop)]
 pub enum Refused {
@@ -31,15 +34,14 @@ fn size_at(at: usize) -> u32 {
 impl<T: Drop> Channel<T> {
     ghost use Rattle.std.specs.Prelude.{◌≡◌, ◌<◌, true, false, is_some, IfErr, IfOk};
     ghost use Rattle.mb_channel.specs.Answers.{IfClosed};
-    ghost use Rattle.mb_channel.specs.Receives.{FoundNone, IsLater};
-    ghost use Rattle.mb_channel.specs.Ends.{IsBehind, IsEndOf, IsOver, IsSame, SawOver, got_by, sent_by, view_of};
+    ghost use Rattle.mb_channel.specs.Receives.{FoundNone};
+    ghost use Rattle.mb_channel.specs.Ends.{IsBehind, IsEndOf, IsOver, IsSame, SawOver, got_by, sent_by, stand_of, view_of};
 
     /// Adds a segment where the end is, if there is none yet.
     fn append(&self, end: &mut End<T>) -> Result<(), Refused>
         requires channel { IsEndOf self.now end.old }
         requires sender { 0 < (view_of end.old).sends }
         ensures end { IsSame end.old end.new }
-        ensures later { IsLater end.old end.new }
         ensures sent { sent_by end.new ≡ sent_by end.old }
         ensures got { got_by end.new ≡ got_by end.old }
         ensures takes { (view_of end.new).takes ≡ (view_of end.old).takes }
@@ -63,11 +65,11 @@ impl<T: Drop> Channel<T> {
         requires outside { is_some end.old.inside ≡ false }
         requires side { takes ≡ true → (view_of end.old).takes ≡ true }
         ensures end { IsSame end.old end.new }
-        ensures later { IsLater end.old end.new }
         ensures sent { sent_by end.new ≡ sent_by end.old }
         ensures got { got_by end.new ≡ got_by end.old }
         ensures takes { takes ≡ true → (view_of end.new).takes ≡ true }
-        ensures none { IfOk result (λ there. there ≡ false → FoundNone end.new) }
+        ensures none { takes ≡ true → IfOk result (λ there. there ≡ false
+            → FoundNone (stand_of end.old) (stand_of end.new)) }
         ensures closed { IfErr result (λ why. IfClosed why (IsBehind end.new)) }
     {
         let at = end.at;
@@ -98,11 +100,11 @@ impl<T: Drop> Channel<T> {
         requires side { takes ≡ true → (view_of end.old).takes ≡ true }
         requires sender { takes ≡ false → 0 < (view_of end.old).sends }
         ensures end { IsSame end.old end.new }
-        ensures later { IsLater end.old end.new }
         ensures sent { sent_by end.new ≡ sent_by end.old }
         ensures got { got_by end.new ≡ got_by end.old }
         ensures takes { takes ≡ true → (view_of end.new).takes ≡ true }
-        ensures none { IfOk result (λ there. there ≡ false → FoundNone end.new) }
+        ensures none { IfOk result (λ there. there ≡ false
+            → FoundNone (stand_of end.old) (stand_of end.new)) }
         ensures behind { takes ≡ true → IfErr result (λ why. IfClosed why (IsBehind end.new)) }
         ensures shut { takes ≡ false
             → IfErr result (λ why. IfClosed why ((view_of end.new).shut ≡ true)) }
@@ -120,7 +122,6 @@ impl<T: Drop> Channel<T> {
         requires channel { IsEndOf self.now end.old }
         requires over { SawOver end.old }
         ensures end { IsSame end.old end.new }
-        ensures later { IsLater end.old end.new }
         ensures sent { sent_by end.new ≡ sent_by end.old }
         ensures got { got_by end.new ≡ got_by end.old }
         ensures takes { (view_of end.old).takes ≡ true → IsOver end.old
@@ -157,11 +158,11 @@ impl<T: Drop> Channel<T> {
         requires done { takes ≡ true → IsOver end.old }
         requires over { SawOver end.old }
         ensures end { IsSame end.old end.new }
-        ensures later { IsLater end.old end.new }
         ensures sent { sent_by end.new ≡ sent_by end.old }
         ensures got { got_by end.new ≡ got_by end.old }
         ensures takes { takes ≡ true → (view_of end.new).takes ≡ true }
-        ensures none { IfOk result (λ there. there ≡ false → FoundNone end.new) }
+        ensures none { IfOk result (λ there. there ≡ false
+            → FoundNone (stand_of end.old) (stand_of end.new)) }
         ensures behind { takes ≡ true → IfErr result (λ why. IfClosed why (IsBehind end.new)) }
         ensures shut { takes ≡ false
             → IfErr result (λ why. IfClosed why ((view_of end.new).shut ≡ true)) }

@@ -1,23 +1,21 @@
 //! A receive that never waits, and the steps of sleep.
 ghost use Rattle.std.specs.Prelude.{◌≡◌, ◌<◌, true};
 ghost use Rattle.mb_channel.specs.Homes.{view_in};
-ghost use Rattle.mb_channel.specs.Work.{Sleeps};
+ghost use Rattle.mb_channel.specs.Work.{IsAwake, Sleeps};
 
-use crate::channel::{Channel, Refused};
+use crate::channel::{Channel, Refused, TRIES};
 use crate::debtor::Debtor;
 use crate::end::Receiver;
 use crate::heard::Heard;
 use std::sync::Wait;
 
-/// How often it leaves a segment or comes to one, at most.
-const TRIES: u32 = 4;
-
-/// A receiver that owes something: it has to leave the list of those that wait, or to wake another. It cannot be dropped.
-/// [`Leaving::pay`] and [`Leaving::pay_some`] make a receiver of it again.
+/// A receiver that owes something: it has to leave the list of those that wait, or to wake another. It does not sleep, and
+/// cannot be dropped. [`Leaving::pay`] and [`Leaving::pay_some`] make a receiver of it again.
 pub struct Leaving<T: Drop> {
     pub(crate) debtor: Debtor<T>,
     ghost takes: { (view_in debtor.chair).takes ≡ true },
     ghost receives: { 0 < (view_in debtor.chair).receives },
+    ghost awake: { IsAwake debtor.busy },
 }
 
 /// A receiver that sleeps: it is in the list of those that wait, and looked there. It cannot be dropped.
@@ -36,7 +34,8 @@ pub enum Polled<T: Drop> {
     TookOwing(Leaving<T>, T),
     /// No value is there. Sleep until a thread is woken for a sender, and then call [`Asleep::wake_up`].
     Sleeps(Asleep<T>),
-    /// A value is being sent, another end was first, or the lock is taken. Yield, and try again.
+    /// Nothing is known: a value is being sent, another end was first, the lock is taken, or the receiver was woken for a
+    /// value that another took, or has still to come to the next segment. Yield, and try again.
     Again(Receiver<T>),
     /// The same, and something is owed.
     Owes(Leaving<T>),
@@ -47,16 +46,20 @@ pub enum Polled<T: Drop> {
 }
 
 impl<T: Drop> Channel<T> {
-    ghost use Rattle.mb_channel.specs.Ends.{IsEndOf};
-    ghost use Rattle.mb_channel.specs.Polls.{FoundEmpty, IfSleeps, OfPolled};
-    ghost use Rattle.mb_channel.specs.Standing.{stand_of};
+    ghost use Rattle.mb_channel.specs.Answers.{IfClosed};
+    ghost use Rattle.mb_channel.specs.Ends.{IsBehind, IsEndOf, stand_of};
+    ghost use Rattle.mb_channel.specs.Polls.{OfPolled};
+    ghost use Rattle.mb_channel.specs.Receives.{FoundNone, SawEmpty};
+    ghost use Rattle.mb_channel.specs.Standing.{stand_with};
 
     /// Tries to receive the next value. If none is there, the receiver enters the list of those that wait, and looks
     /// again. It makes a few accesses, and never waits itself.
     pub fn poll_receive(&self, receiver: Receiver<T>) -> Polled<T>
         requires channel { IsEndOf self.now receiver.end }
-        ensures answer { OfPolled result (stand_of receiver.end) }
-        ensures saw { IfSleeps result (λ a. FoundEmpty receiver.end a.debtor) }
+        ensures answer { let v = stand_of receiver.end in OfPolled result v
+            (λ a. SawEmpty v (stand_with a.debtor))
+            (λ r. FoundNone v (stand_of r.end))
+            (λ r why. IfClosed why (IsBehind r.end)) }
     {
         let Receiver { mut end } = receiver;
         for _ in 0..TRIES {
@@ -80,7 +83,8 @@ impl<T: Drop> Asleep<T> {
 
     /// Takes a token, if one is there, and looks. Else it sleeps on.
     pub fn wake_up(self) -> Polled<T>
-        ensures answer { OfPolled result (stand_with self.debtor) }
+        ensures answer { OfPolled result (stand_with self.debtor)
+            (λ a. Unit {0}) (λ r. ⊥) (λ r why. ⊥) }
     {
         let Asleep { debtor } = self;
         let (debtor, heard) = debtor.wake_up();
@@ -91,14 +95,16 @@ impl<T: Drop> Asleep<T> {
     pub fn give_up(self) -> Leaving<T>
         ensures still { NoMore (stand_with self.debtor) (stand_with result.debtor) }
     {
-        let Asleep { debtor } = self;
+        let Asleep { mut debtor } = self;
+        debtor.give_up();
         Leaving { debtor }
     }
 }
 
 impl<T: Drop> Leaving<T> {
     ghost use Rattle.std.specs.Prelude.{IfErr, IfOk};
-    ghost use Rattle.mb_channel.specs.Standing.{NoMore, stand_of, stand_with};
+    ghost use Rattle.mb_channel.specs.Ends.{stand_of};
+    ghost use Rattle.mb_channel.specs.Standing.{NoMore, stand_with};
 
     /// Leaves the list, and gives the tokens that are owed. It wakes a thread for each.
     pub fn pay<R: Wait>(self, rt: &R) -> Receiver<T>
@@ -126,18 +132,18 @@ impl<T: Drop> Leaving<T> {
 }
 
 impl<T: Drop> Debtor<T> {
-    ghost use Rattle.mb_channel.specs.Polls.{IfSleeps, OfLook, OfPolled};
-    ghost use Rattle.mb_channel.specs.Standing.{NoMore, Standing, stand_with};
-    ghost use Rattle.mb_channel.specs.Work.{IfAsleep};
+    ghost use Rattle.mb_channel.specs.Polls.{OfLook, OfPolled};
+    ghost use Rattle.mb_channel.specs.Ends.{Standing};
+    ghost use Rattle.mb_channel.specs.Standing.{NoMore, stand_with};
     ghost use Rattle.mb_channel.specs.declared.heard.Heard.TheVariants as looked;
 
     /// What a receiver answers after its look.
     fn answer(self, heard: Heard<T>) -> Polled<T>
         requires takes { (view_in self.chair).takes ≡ true }
         requires receives { 0 < (view_in self.chair).receives }
-        requires sleeps { IfAsleep heard (Sleeps self.busy) }
-        ensures answer { (v : Standing T) → OfLook heard v self → OfPolled result v }
-        ensures sleeps { IfSleeps result (λ a. (a.debtor ≡ self) × (heard ≡ looked.Asleep)) }
+        requires looked { (v : Standing T) × OfLook heard v self }
+        ensures answer { (v : Standing T) → OfLook heard v self → OfPolled result v
+            (λ a. (a.debtor ≡ self) × (heard ≡ looked.Asleep)) (λ r. ⊥) (λ r why. ⊥) }
     {
         match heard {
             Heard::Asleep => Polled::Sleeps(Asleep { debtor: self }),
@@ -154,8 +160,9 @@ impl<T: Drop> Debtor<T> {
     fn not_yet(self) -> Polled<T>
         requires takes { (view_in self.chair).takes ≡ true }
         requires receives { 0 < (view_in self.chair).receives }
-        ensures answer { (v : Standing T) → NoMore v (stand_with self) → OfPolled result v }
-        ensures awake { IfSleeps result (λ _. ⊥) }
+        requires awake { IsAwake self.busy }
+        ensures answer { (v : Standing T) → NoMore v (stand_with self) → OfPolled result v
+            (λ a. ⊥) (λ r. ⊥) (λ r why. ⊥) }
     {
         match self.rest() {
             Ok(end) => Polled::Again(Receiver { end }),

@@ -1,5 +1,6 @@
 use Rattle.std.proofs.Common.{◌≡◌}
-use Rattle.mb_channel.specs.Standing.{NoMore, stand_of}
+use Rattle.mb_channel.specs.Ends.{stand_of}
+use Rattle.mb_channel.specs.Standing.{NoMore}
 use Rattle.mb_channel.proofs.channel.Channel.try_send.Given as goal
 
 abbrev pub invariant-loop : goal.invariant-loop
