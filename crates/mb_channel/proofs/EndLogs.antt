@@ -1,12 +1,11 @@
 -- What a step in its segment does to an end.
-use Rattle.std.proofs.Common.{ℕ, List, [], sym, refl, ap, subst, append_assoc, arith, inr, true}
+use Rattle.std.proofs.Common.{List, [], sym, refl, ap, subst, append_assoc, arith, inr, true}
 use Rattle.std.proofs.Common.{◌≡◌, ◌<◌, ◌≤◌, ◌∷◌, ◌++◌, ◌∙◌}
 use Rattle.std.specs.Prelude.{Err, IfNone, IfSome, None, Ok, OnOk, Option, Result, Some}
 use Rattle.atomic_table.specs.declared.shared.Seat.{Seat}
-use Rattle.mb_segment.specs.Moves.{found_empty}
 use Rattle.mb_segment.specs.declared.waiting.Received.{Received}
 use Rattle.mb_segment.specs.declared.waiting.Received.TheVariants as received
-use Rattle.mb_segment.specs.Waiting.{OfReceived}
+use Rattle.mb_segment.specs.Vocabulary.{OfReceived, found_empty}
 use Rattle.mb_channel.specs.Types.{Account, Homes, Knows, Position, Visit}
 use Rattle.mb_channel.specs.declared.debtor.Debtor.{Debtor}
 use Rattle.mb_channel.specs.declared.inside.Inside.{Inside}
@@ -36,10 +35,10 @@ module _ {T : Type 0} where
       ∙ ap (λ p. log_in f vs (pass_there p)) (sym is)
 
   -- an end with this chair
-  abbrev pub stand : Seat (Homes T) (Knows T) → Option (Inside T) → Standing T
+  abbrev stand : Seat (Homes T) (Knows T) → Option (Inside T) → Standing T
   stand c o = record { chair = c; pass = pass_there o }
 
-  abbrev pub stands : Seat (Homes T) (Knows T) → Work T → Standing T
+  abbrev stands : Seat (Homes T) (Knows T) → Work T → Standing T
   stands c w = record { chair = c; pass = Some w.pass }
 
   one : (c : Seat (Homes T) (Knows T)) (o : Option (Inside T)) (i : Inside T) (w : Work T) → o ≡ Some i
@@ -81,7 +80,7 @@ module _ {T : Type 0} where
     got = log_same (λ a. a.got) c.me.0.visits o i w is (ap (λ (a : Account T). a.got) account);
   }
 
-  pub still : (c : Seat (Homes T) (Knows T)) (o : Option (Inside T)) (i : Inside T) (w : Work T) → o ≡ Some i
+  still : (c : Seat (Homes T) (Knows T)) (o : Option (Inside T)) (i : Inside T) (w : Work T) → o ≡ Some i
       → IsStill (work_in i) w → NoMore (stand c o) (stands c w)
   still c o i w is s = same c o i w is s.there s.account
 
@@ -123,8 +122,7 @@ module _ {T : Type 0} where
   got_if c o i w (Some x) is has = one_got c o i w x is has
 
   pub told_if : {A : Type 0} (c : Seat (Homes T) (Knows T)) (o : Option (Inside T)) (i : Inside T) (w : Work T)
-      (r : Option A)
-      → o ≡ Some i → IfNone r (IsTold (work_in i) w)
+      (r : Option A) → o ≡ Some i → IfNone r (IsTold (work_in i) w)
       → IfNone r ((w.pass.over ≡ true) × NoMore (stand c o) (stands c w))
   told_if c o i w None is t = told c o i w is t
   told_if c o i w (Some x) is t = t
@@ -152,9 +150,8 @@ module _ {T : Type 0} where
   tried_one c o i w tried.Empty is a = saw c o i w is a
   tried_one c o i w tried.Again is a = still c o i w is a
 
-  pub tried_if : (c : Seat (Homes T) (Knows T)) (o : Option (Inside T)) (i : Inside T) (w : Work T) (r : Option
-      (Tried T))
-      → o ≡ Some i → IfSome r (λ t. OfTried t (λ x. HasGot x (work_in i) w)
+  pub tried_if : (c : Seat (Homes T) (Knows T)) (o : Option (Inside T)) (i : Inside T) (w : Work T)
+      (r : Option (Tried T)) → o ≡ Some i → IfSome r (λ t. OfTried t (λ x. HasGot x (work_in i) w)
       (IsStill (work_in i) w × SawNothing (found_empty (work_in i).pass) w.pass)
       (IsStill (work_in i) w))
       → IfSome r (λ t. OfTried t (λ x. OneGot x (stand c o) (stands c w))

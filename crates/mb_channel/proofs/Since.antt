@@ -1,5 +1,5 @@
 -- An end that has gone on, and what it found since.
-use Rattle.std.proofs.Common.{ap, inl, inr, subst, sym, ⊎_elim, arith, [], ◌<◌, ◌≡◌, ◌⊎◌, ◌∷◌, ◌++◌, ◌∙◌}
+use Rattle.std.proofs.Common.{ap, inl, inr, subst, sym, ⊎_elim, arith, [], ◌≡◌, ◌∷◌, ◌++◌, ◌∙◌}
 use Rattle.mb_channel.specs.declared.polls.Asleep.{Asleep}
 use Rattle.mb_channel.specs.declared.polls.Polled.{Polled}
 use Rattle.mb_channel.specs.declared.polls.Polled.TheVariants as polled

@@ -39,7 +39,7 @@ pub enum Polled<T: Drop> {
     Again(Receiver<T>),
     /// The same, and something is owed.
     Owes(Leaving<T>),
-    /// Nothing waits: the receiver is behind the last segment that there is. It does not sleep. Yield, and try again.
+    /// Nothing waited: in this call, the receiver looked behind the last segment. It does not sleep. Yield, and try again.
     Empty(Receiver<T>),
     /// [`Refused::Closed`]: no value can come any more, for ever. Or ends cannot be counted.
     Refused(Receiver<T>, Refused),
