@@ -94,23 +94,19 @@ module _ {T : Type 0} where
       ))
       (snoc_cases k.homes q.0 h m (ap (λ x. get_elem? x m) (sym q.2) ∙ e))) l
 
-  -- it gives the lock back, and says how many segments it found
-  abbrev let_go : Option ℕ → Knows T → Knows T
-  let_go m v = record (unlocked v) { found = m }
-
   -- whoever adds a segment was never told that there will be no more, and nobody was
-  grown_told : (m : Option ℕ) (s : State (Homes T) (Knows T)) (k : Keeps s) (id : ℕ) (v : Knows T) (hs : List (Home T))
+  grown_told : (s : State (Homes T) (Knows T)) (k : Keeps s) (id : ℕ) (v : Knows T) (hs : List (Home T))
       → get_elem? s.views id ≡ some v → v.before ≡ k.homes → MayLeave v hs → Grows k.homes hs
-      → AllFitEnd s k id (let_go m v) hs k.mark
-  grown_told m s k id v hs at before may grows = ⊎_elim
-      (λ e. still_told s k id v (let_go m v) hs at grows (ap length (e ∙ before)) refl
+      → AllFitEnd s k id (unlocked v) hs k.mark
+  grown_told s k id v hs at before may grows = ⊎_elim
+      (λ e. still_told s k id v (unlocked v) hs at grows (ap length (e ∙ before)) refl
       (λ q. absurd (true≢false (sym q))) refl refl refl
       (λ q. over_grows k.homes hs grows v.at ((k.told id v at).over q)))
       (λ more.
-      let b = total_set sends s.views id v (let_go m v) at in
+      let b = total_set sends s.views id v (unlocked v) at in
       let low = below_total sends s.views id v at in
       let some_ = more.0 in
-      let e : total sends (slice_set s.views id (let_go m v)) ≡ total sends s.views = omega arith in
+      let e : total sends (slice_set s.views id (unlocked v)) ≡ total sends s.views = omega arith in
       let marked = ((k.told id v at).may_add more.1).1 in
       let no_end : IsShut k.mark s.views → ⊥ = ⊎_elim (λ z. omega arith) (λ z. omega arith) in (
         (λ j u ne at'. let t = k.told j u at' in record {
@@ -131,11 +127,10 @@ module _ {T : Type 0} where
       may
 
   -- nothing was done, or a segment was added
-  pub unlocks_found : (m : Option ℕ) (slots id : ℕ) (me : Sat T) (y : Homes T) (hs : List (Home T)) → Stands hs y
-      → me.1 ≡ (0, y) ∷ [] → me.0.live ≡ true → me.0.holds ≡ true → MayLeave me.0 hs
-      → MayGive (λ v. record v { found = m }) slots id me
-  unlocks_found m slots id me y hs stands carried live holds may = unlocks
-      (λ v. record v { found = m }) slots id me y hs stands carried live holds refl refl refl refl refl
+  pub unlocks_same : (slots id : ℕ) (me : Sat T) (y : Homes T) (hs : List (Home T)) → Stands hs y → me.1 ≡ (0, y) ∷ []
+      → me.0.live ≡ true → me.0.holds ≡ true → MayLeave me.0 hs → MayGive (λ v. v) slots id me
+  unlocks_same slots id me y hs stands carried live holds may = unlocks
+      (λ v. v) slots id me y hs stands carried live holds refl refl refl refl refl refl
       (λ s k at part before.
       let f = k.fits id me.0 at in
       let l : Longer me.0.at k.homes hs = subst (λ x. Longer me.0.at x hs) before
@@ -159,14 +154,10 @@ module _ {T : Type 0} where
           takes = λ is. next_grows k.homes hs g me.0.at (f.takes is);
           newborn = f.newborn;
           idle = λ z. absurd (omega arith);
-          ended = ended_stay s k id me.0 (let_go m me.0) at part k.all (λ n _. refl);
+          ended = ended_stay s k id me.0 (unlocked me.0) at part k.all (λ n _. refl);
         },
-        grown_told m s k id me.0 hs at before may g,
+        grown_told s k id me.0 hs at before may g,
       ))
-
-  pub unlocks_same : (slots id : ℕ) (me : Sat T) (y : Homes T) (hs : List (Home T)) → Stands hs y → me.1 ≡ (0, y) ∷ []
-      → me.0.live ≡ true → me.0.holds ≡ true → MayLeave me.0 hs → MayGive (λ v. v) slots id me
-  unlocks_same slots id me = unlocks_found me.0.found slots id me
 
   -- a pass of the segment where the end is belongs to the hub there
   pub pass_here : (hs : List (Home T)) (v : Knows T) (p : Pass T) → IsIn hs v → IsBusy hs v.at → IsPassOf v.place p

@@ -1,16 +1,16 @@
 -- An end sees that no sender is left or that the list is closed, closes it, and is told that it never grows any more.
 use Rattle.std.proofs.Common.{ℕ, zero, suc, Bool, true, false, true≢false, List, [], length, sym, refl, ap, subst, inl, inr, ⊎_elim, arith}
-use Rattle.std.proofs.Common.{◌≡◌, ◌≢◌, ◌<◌, ◌≤◌, ◌⊎◌, ◌∷◌, ◌∙◌}
+use Rattle.std.proofs.Common.{◌≡◌, ◌≢◌, ◌<◌, ◌≤◌, ◌⊎◌, ◌∷◌, ◌∙◌, if◌then◌else◌}
 use Rattle.std.specs.Prelude.{Option, Some, slice_set, slice_index}
 use mathlib.Core.Option.{some, none}
 use lib.ListN.{get_elem?}
 use native.Mathlib.Decide.{ℕ_discrete}
-use Rattle.atomic_table.specs.Table.{State, Act, keeps, step, stepped, Allows, Valid, carried_after}
+use Rattle.atomic_table.specs.Table.{State, Act, Step, keeps, step, stepped, Allows, Valid, carried_after}
 use Rattle.mb_channel.specs.Types.{Home, Homes, Knows}
 use Rattle.mb_channel.specs.Homes.{Agrees, AreLed, AreOver, Grows, IsIn, IsNear, IsNext, IsShut, Keeps, MayGive, Sat, Stands}
 use Rattle.mb_channel.specs.Homes.{is_in, sends, tallies, total, unlocked}
-use Rattle.mb_channel.specs.Tallies.{closing, saw_closed, saw_none, sees_mark, sees_senders, told_last}
-use Rattle.mb_channel.proofs.Members.{lock_view, senders_word, mark_word, set_same, tallies_stay, unchanged}
+use Rattle.mb_channel.specs.Tallies.{IsLast, closing, found_none, saw_closed, saw_none, sees_mark, sees_senders, told_last}
+use Rattle.mb_channel.proofs.Members.{lock_view, senders_word, mark_word, set_same, tallies_stay}
 use Rattle.mb_channel.proofs.Moves.{AllFitEnd, busy_same, ended_stay, grows_same, has_part, moved, tallies_set, told_same, unlocks}
 use Rattle.mb_channel.proofs.Views.{below_total, there, total_set}
 
@@ -22,18 +22,18 @@ some_is : (a b : ℕ) → Some a ≡ Some b → a ≡ b
 some_is a b e = ap (λ (o : Option ℕ). Rattle.std.specs.Option.unwrap_or o a) e
 
 module _ {T : Type 0} where
-  -- a step that changes what the view says of the senders and the mark alone
-  abbrev noticed : Bool → Bool → Bool → Knows T → Knows T
-  noticed a b c v = record v { may_add = a; alone = b; shut = c }
+  -- a step that changes what the view says of the senders, the mark and its looks alone
+  abbrev noticed : Bool → Bool → Bool → ℕ → Knows T → Knows T
+  noticed a b c d v = record v { may_add = a; alone = b; shut = c; found = d }
 
-  notices : (s : State (Homes T) (Knows T)) (k : Keeps s) (id : ℕ) (v : Knows T) (a b c : Bool) (words : List ℕ)
-      (mark : ℕ) → get_elem? s.views id ≡ some v → v.live ≡ true
+  notices : (s : State (Homes T) (Knows T)) (k : Keeps s) (id : ℕ) (v : Knows T) (a b c : Bool) (d : ℕ)
+      (words : List ℕ) (mark : ℕ) → get_elem? s.views id ≡ some v → v.live ≡ true
       → ((lock : ℕ) → s.words ≡ lock ∷ tallies s.views k.mark
-      → words ≡ lock ∷ tallies (slice_set s.views id (noticed a b c v)) mark)
-      → AllFitEnd s k id (noticed a b c v) k.homes mark
-      → Keeps record { words = words; homes = s.homes; views = slice_set s.views id (noticed a b c v) }
-  notices s k id v a b c words mark at live same tells =
-      let w = noticed a b c v in
+      → words ≡ lock ∷ tallies (slice_set s.views id (noticed a b c d v)) mark)
+      → AllFitEnd s k id (noticed a b c d v) k.homes mark
+      → Keeps record { words = words; homes = s.homes; views = slice_set s.views id (noticed a b c d v) }
+  notices s k id v a b c d words mark at live same tells =
+      let w = noticed a b c d v in
       let f = k.fits id v at in
       let part = has_part k.homes k.all s.views id v f live in
       moved s k id v w at part refl k.homes k.all mark (grows_same k.homes) k.leads k.agrees (λ n _. refl)
@@ -57,9 +57,25 @@ module _ {T : Type 0} where
       → slice_set s.words i (slice_index s.words i) ≡ lock ∷ tallies (slice_set s.views id w) k.mark
   loaded s k id i v w at a b c lock e = set_same s.words i ∙ tallies_stay s k.mark id v w at a b c lock e
 
-  pub sees_whether : (slots id : ℕ) (me : Sat T) → me.0.live ≡ true
+  -- it sees the mark or looks, and sees no number of senders
+  sees_it : (s : State (Homes T) (Knows T)) (k : Keeps s) (id : ℕ) (v : Knows T) (a c : Bool) (d : ℕ)
+      → get_elem? s.views id ≡ some v → (a ≡ true → (v.holds ≡ true) × (0 < k.mark)) → (c ≡ true → k.mark ≡ 0)
+      → AllFitEnd s k id (noticed a v.alone c d v) k.homes k.mark
+  sees_it s k id v a c d at may_add shut =
+      let t = k.told id v at in
+      let w = noticed a v.alone c d v in
+      let b = total_set sends s.views id v w at in
+      let same : total sends (slice_set s.views id w) ≡ total sends s.views = omega arith in
+      let x = told_same k.homes k.homes k.mark s.views (slice_set s.views id w) v (grows_same k.homes) refl
+      (λ q. same ∙ q) t in (
+        (λ j u ne at'. told_same k.homes k.homes k.mark s.views (slice_set s.views id w) u (grows_same k.homes) refl
+            (λ q. same ∙ q) (k.told j u at')),
+        record { may_add = may_add; alone = x.alone; shut = shut; over = x.over; last = x.last },
+      )
+
+  pub sees_whether : (slots id : ℕ) (me : Sat T) → me.0.live ≡ true → IsLast me.0
       → Allows Keeps slots id me 2 (λ n. n) (sees_senders (step slots 2 0 0 none) me)
-  sees_whether slots id me live s k len at small = go (ℕ_discrete (slice_index s.words 2) 0)
+  sees_whether slots id me live last s k len at small = go (ℕ_discrete (slice_index s.words 2) 0)
     where
       go : Dec (slice_index s.words 2 ≡ 0) → (w : Knows T) × (a : Act (Homes T)) × Valid s.homes me.1 a
           × Keeps (stepped s 2 (slice_index s.words 2) id me.1 w a)
@@ -72,7 +88,7 @@ module _ {T : Type 0} where
             w,
             keeps,
             tt,
-            notices s k id v v.may_add true v.shut (slice_set s.words 2 (slice_index s.words 2)) k.mark at live
+            notices s k id v v.may_add true v.shut v.found (slice_set s.words 2 (slice_index s.words 2)) k.mark at live
                 (loaded s k id 2 v w at refl refl refl) (
                   (λ j u ne at'. told_same k.homes k.homes k.mark s.views (slice_set s.views id w) u
                       (grows_same k.homes) refl (λ _. now) (k.told j u at')),
@@ -84,24 +100,16 @@ module _ {T : Type 0} where
                     last = λ n q. let x = t.last n q in (x.0, inr now, x.2);
                   },
                 ),
-            (refl, (λ _. (refl, omega arith)), λ ne. absurd (ne e)),
+            (refl, last, (λ _. (refl, omega arith)), λ ne. absurd (ne e)),
           )
-      go (no ne) = (me.0, keeps, tt, unchanged s k id 2 me.0 at, (refl, (λ e. absurd (ne e)), λ _. refl))
-
-  -- it sees the mark, and no other number
-  sees_it : (s : State (Homes T) (Knows T)) (k : Keeps s) (id : ℕ) (v : Knows T) (a c : Bool)
-      → get_elem? s.views id ≡ some v → (a ≡ true → (v.holds ≡ true) × (0 < k.mark)) → (c ≡ true → k.mark ≡ 0)
-      → AllFitEnd s k id (noticed a v.alone c v) k.homes k.mark
-  sees_it s k id v a c at may_add shut =
-      let t = k.told id v at in
-      let w = noticed a v.alone c v in
-      let b = total_set sends s.views id v w at in
-      let same : total sends (slice_set s.views id w) ≡ total sends s.views = omega arith in
-      let x = told_same k.homes k.homes k.mark s.views (slice_set s.views id w) v (grows_same k.homes) refl
-      (λ q. same ∙ q) t in (
-        (λ j u ne at'. told_same k.homes k.homes k.mark s.views (slice_set s.views id w) u (grows_same k.homes) refl
-            (λ q. same ∙ q) (k.told j u at')),
-        record { may_add = may_add; alone = x.alone; shut = shut; over = x.over; last = x.last },
+      go (no ne) = let v = me.0 in let w = found_none v in (
+        w,
+        keeps,
+        tt,
+        notices s k id v v.may_add v.alone v.shut w.found (slice_set s.words 2 (slice_index s.words 2)) k.mark at live
+            (loaded s k id 2 v w at refl refl refl)
+            (sees_it s k id v v.may_add v.shut w.found at (k.told id v at).may_add (k.told id v at).shut),
+        (refl, last, (λ e. absurd (ne e)), λ _. refl),
       )
 
   pub sees_marked : (slots id : ℕ) (me : Sat T) → me.0.live ≡ true
@@ -115,18 +123,18 @@ module _ {T : Type 0} where
         saw_closed v,
         keeps,
         tt,
-        notices s k id v v.may_add v.alone true (slice_set s.words 4 (slice_index s.words 4)) k.mark at live
+        notices s k id v v.may_add v.alone true v.found (slice_set s.words 4 (slice_index s.words 4)) k.mark at live
             (loaded s k id 4 v (saw_closed v) at refl refl refl)
-            (sees_it s k id v v.may_add true at (k.told id v at).may_add (λ _. sym (mark_word s k) ∙ e)),
+            (sees_it s k id v v.may_add true v.found at (k.told id v at).may_add (λ _. sym (mark_word s k) ∙ e)),
         (refl, (λ _. refl), λ ne. absurd (ne e)),
       )
       go (no ne) = let v = me.0 in let w : Knows T = record v { may_add = v.holds } in (
         w,
         keeps,
         tt,
-        notices s k id v v.holds v.alone v.shut (slice_set s.words 4 (slice_index s.words 4)) k.mark at live
+        notices s k id v v.holds v.alone v.shut v.found (slice_set s.words 4 (slice_index s.words 4)) k.mark at live
             (loaded s k id 4 v w at refl refl refl)
-            (sees_it s k id v v.holds v.shut at
+            (sees_it s k id v v.holds v.shut v.found at
             (λ q. (q, some_number k.mark (λ z. ne (mark_word s k ∙ z)))) (k.told id v at).shut),
         (refl, (λ e. absurd (ne e)), λ _. refl),
       )
@@ -150,7 +158,7 @@ module _ {T : Type 0} where
         w,
         keeps,
         tt,
-        notices s k id v false v.alone true (slice_set s.words 4 0) 0 at live
+        notices s k id v false v.alone true v.found (slice_set s.words 4 0) 0 at live
             (λ lock e. ap (λ l. slice_set l 4 0) e ∙ ap (λ l. lock ∷ l)
             (sym (tallies_set s.views id v w 0 at refl refl refl))) (
               (λ j u ne at'. let x = k.told j u at' in record {
@@ -177,7 +185,7 @@ module _ {T : Type 0} where
       → (me.0.shut ≡ true) ⊎ (me.0.alone ≡ true) → (me.0.at ≡ n) × (me.0.orderly ≡ true)
       → MayGive (told_last n) slots id me
   unlocks_told n slots id me y hs stands carried live holds is size seen here = unlocks
-      (told_last n) slots id me y hs stands carried live holds refl refl refl refl refl
+      (told_last n) slots id me y hs stands carried live holds refl refl refl refl refl refl
       (λ s k at part before.
       let v = me.0 in
       let f = k.fits id v at in
@@ -223,6 +231,21 @@ module _ {T : Type 0} where
           },
         ),
       ))
+
+  -- whoever counts that it is behind the last segment may receive there
+  pub none_waits : (s : State (Homes T) (Knows T)) (k : Keeps s) (id r : ℕ) (st : Step (Homes T)) (m n : Sat T)
+      → get_elem? s.views id ≡ some m.0 → sees_senders st m r n → m.0.found < n.0.found
+      → (length k.homes ≡ m.0.at) × IsNext k.homes m.0.at
+  none_waits s k id r st m n at saw more = let v = m.0 in
+      let same : v.before ≡ k.homes = ⊎_elim (λ free. absurd (true≢false (sym saw.1.0 ∙ free.4 id v at)))
+      (λ held. (held.3 id v at saw.1.0).1) k.lock in
+      (ap length (sym same) ∙ saw.1.1, (k.fits id v at).takes (counted v.takes refl (ℕ_discrete r 0)))
+    where
+      counted : (b : Bool) → m.0.takes ≡ b → Dec (r ≡ 0) → m.0.takes ≡ true
+      counted true is d = is
+      counted false is (yes e) = let same = ap (λ (z : Knows T). z.found) (saw.2 e).0 in absurd (omega arith)
+      counted false is (no ne) = let same = ap (λ (z : Knows T). z.found) (saw.3 ne)
+          ∙ ap (λ (b : Bool). if b then suc m.0.found else m.0.found) is in absurd (omega arith)
 
   -- an end is no further than behind the last segment
   pub near_last : (hs : List (Home T)) (k : ℕ) → IsNear hs k → k ≤ length hs

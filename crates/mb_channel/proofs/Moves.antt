@@ -277,11 +277,11 @@ module _ {T : Type 0} where
       → me.1 ≡ (0, y) ∷ [] → me.0.live ≡ true → me.0.holds ≡ true
       → (f (unlocked me.0)).rights ≡ me.0.rights → (f (unlocked me.0)).sends ≡ me.0.sends
       → (f (unlocked me.0)).receives ≡ me.0.receives → (f (unlocked me.0)).ended ≡ me.0.ended
-      → (f (unlocked me.0)).holds ≡ false
+      → (f (unlocked me.0)).holds ≡ false → (f (unlocked me.0)).found ≡ me.0.found
       → ((s : State (Homes T) (Knows T)) (k : Keeps s) → get_elem? s.views id ≡ some me.0 → 0 < me.0.rights
       → me.0.before ≡ k.homes → Lawful s k id me.0 hs (f (unlocked me.0)))
       → MayGive f slots id me
-  unlocks f slots id me y hs stands carried live holds ends senders receivers past lets go s k len at small =
+  unlocks f slots id me y hs stands carried live holds ends senders receivers past lets same go s k len at small =
       ⊎_elim
       (λ free. absurd (true≢false (sym holds ∙ free.4 id me.0 at)))
       (λ held.
@@ -307,6 +307,6 @@ module _ {T : Type 0} where
                   ((held.3 j u t.1 on).0 ∙ sym mine.0)))
                   (at_set s.views id j w u e),
             )),
-        (refl, ap rest carried),
+        (refl, ap rest carried, same),
       ))
       k.lock

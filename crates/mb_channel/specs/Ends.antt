@@ -1,21 +1,22 @@
 -- What an end sent and received in all, and which channel it belongs to.
-use Rattle.std.specs.Prelude.{◌≡◌, List, [], map, true, IfSome, is_some}
+use Rattle.std.specs.Prelude.{◌≡◌, ◌<◌, ◌≤◌, ◌⊎◌, List, [], map, true, IfSome, Option, is_some}
+use Rattle.atomic_table.specs.declared.shared.Seat.{Seat}
 use Rattle.mb_segment.specs.Vocabulary.{is_over}
-use Rattle.mb_channel.specs.Types.{Knows}
+use Rattle.mb_channel.specs.Types.{Homes, Knows, View}
 use Rattle.mb_channel.specs.declared.channel.Channel.{Channel}
 use Rattle.mb_channel.specs.declared.end.End.{End}
 use Rattle.mb_channel.specs.Closing.{KnowsEnd}
-use Rattle.mb_channel.specs.Inside.{Log, log_in, log_of_past, told_in}
+use Rattle.mb_channel.specs.Inside.{Log, found_there, log_in, log_of_past, pass_there, told_in}
 
 abbrev pub view_of : {T : Type 0} → End T → Knows T
 view_of e = e.chair.me.0
 
 -- all values that the end sent, and all that it received, in order
 abbrev pub sent_by : {T : Type 0} → End T → List T
-sent_by e = log_in (λ a. a.sent) (view_of e).visits e.inside
+sent_by e = log_in (λ a. a.sent) (view_of e).visits (pass_there e.inside)
 
 abbrev pub got_by : {T : Type 0} → End T → List T
-got_by e = log_in (λ a. a.got) (view_of e).visits e.inside
+got_by e = log_in (λ a. a.got) (view_of e).visits (pass_there e.inside)
 
 abbrev pub log_of : {T : Type 0} → End T → Log T
 log_of e = record { number = (view_of e).number; sent = sent_by e; got = got_by e }
@@ -36,14 +37,31 @@ abbrev pub StaysTold : {T : Type 0} → Knows T → Knows T → Type 0
 StaysTold v w = (v.shut ≡ true → w.shut ≡ true) × (v.alone ≡ true → w.alone ≡ true)
     × (is_some v.last ≡ true → is_some w.last ≡ true)
 
+-- where an end is, also while it owes something there: its chair, and what its pass of the segment knows, if it has one
+pub record Standing (T : Type 0) : Type 0 where
+  pub chair : Seat (Homes T) (Knows T)
+  pub pass : Option (View T)
+
+abbrev pub stand_of : {T : Type 0} → End T → Standing T
+stand_of e = record { chair = e.chair; pass = pass_there e.inside }
+
+-- it has gone on, or is where it was. It never forgets a look: at its segment while it is there, or behind the last one
+abbrev pub IsLater : {T : Type 0} → Standing T → Standing T → Type 0
+IsLater v w = (v.chair.me.0.found ≤ w.chair.me.0.found) × ((v.chair.me.0.at < w.chair.me.0.at)
+    ⊎ ((v.chair.me.0.at ≡ w.chair.me.0.at) × (found_there v.pass ≤ found_there w.pass)))
+
 -- the same end, later: no other was given back to it meanwhile, and it counts for as many senders and receivers
-pub record IsSame {T : Type 0} (old new : End T) : Type 0 where
-  pub list : new.chair.table_id ≡ old.chair.table_id
-  pub number : (view_of new).number ≡ (view_of old).number
-  pub ended : (view_of new).ended ≡ (view_of old).ended
-  pub sends : (view_of new).sends ≡ (view_of old).sends
-  pub receives : (view_of new).receives ≡ (view_of old).receives
-  pub told : StaysTold (view_of old) (view_of new)
+pub record IsOne {T : Type 0} (v w : Standing T) : Type 0 where
+  pub list : w.chair.table_id ≡ v.chair.table_id
+  pub number : w.chair.me.0.number ≡ v.chair.me.0.number
+  pub ended : w.chair.me.0.ended ≡ v.chair.me.0.ended
+  pub sends : w.chair.me.0.sends ≡ v.chair.me.0.sends
+  pub receives : w.chair.me.0.receives ≡ v.chair.me.0.receives
+  pub told : StaysTold v.chair.me.0 w.chair.me.0
+  pub later : IsLater v w
+
+abbrev pub IsSame : {T : Type 0} → End T → End T → Type 0
+IsSame old new = IsOne (stand_of old) (stand_of new)
 
 -- the view of an end that left its segment: the end is the same, and it counts for as many
 pub record IsLeft {T : Type 0} (old new : Knows T) : Type 0 where

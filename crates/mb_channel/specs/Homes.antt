@@ -121,7 +121,7 @@ first_view = record {
   alone = false;
   shut = false;
   last = None;
-  found = None;
+  found = 0;
 }
 
 abbrev pub spent_view : {T : Type 0} → Knows T
@@ -329,7 +329,7 @@ takes_lock {T} st m r n = (r ≡ 0 → (l : Homes T) × (hs : List (Home T)) × 
     × (r ≢ 0 → n ≡ m)
 
 abbrev pub gives_lock : {T : Type 0} → (Knows T → Knows T) → Step (Homes T) → Sat T → ℕ → Sat T → Type 0
-gives_lock f st m r n = (n.0 ≡ f (unlocked m.0)) × (n.1 ≡ [])
+gives_lock f st m r n = (n.0 ≡ f (unlocked m.0)) × (n.1 ≡ []) × (n.0.found ≡ m.0.found)
 
 -- giving the lock back keeps the rule, whatever the other ends do
 abbrev pub MayGive : {T : Type 0} → (Knows T → Knows T) → ℕ → ℕ → Sat T → Type 0

@@ -1,6 +1,7 @@
 -- What an end has of the segment where it is, and what its visits and its pass there list.
-use Rattle.std.specs.Prelude.{ℕ, ◌++◌, Bool, false, List, [], ◌∷◌, map, Option, Some, None}
-use Rattle.mb_channel.specs.Types.{Account, Arc, Global, Pass, Past, Position, Segment, Visit}
+use Rattle.std.specs.Prelude.{ℕ, ◌<◌, ◌++◌, Bool, false, List, [], ◌∷◌, map, Option, Some, None}
+use Rattle.mb_segment.specs.Moves.{SawAllTaken, found_empty}
+use Rattle.mb_channel.specs.Types.{Account, Arc, Global, Pass, Past, Position, Segment, View, Visit}
 use Rattle.mb_channel.specs.declared.inside.Inside.{Inside}
 
 -- the pass, at work
@@ -14,6 +15,11 @@ account_in i = i.pass.seat.me.0.account
 -- whether it was told that no value can come there any more
 abbrev pub told_in : {T : Type 0} → Inside T → Bool
 told_in i = i.pass.seat.me.0.over
+
+-- it looked, and found more than n times that none waits there. At that moment all was claimed that it had sent or seen
+-- marked there
+abbrev pub SawNothing : {T : Type 0} → ℕ → View T → Type 0
+SawNothing n v = SawAllTaken v × (n < found_empty v)
 
 -- ---- of an end that may be in a segment
 abbrev pub told_there : {T : Type 0} → Option (Inside T) → Bool
@@ -30,6 +36,16 @@ abbrev pub got_there : {T : Type 0} → Option (Inside T) → List (Position T)
 got_there None = []
 got_there (Some i) = (account_in i).got
 
+-- what its pass knows
+abbrev pub pass_there : {T : Type 0} → Option (Inside T) → Option (View T)
+pass_there None = None
+pass_there (Some i) = Some i.pass.seat.me.0
+
+-- how often its pass looked there, and found that none waits
+abbrev pub found_there : {T : Type 0} → Option (View T) → ℕ
+found_there None = 0
+found_there (Some v) = found_empty v
+
 -- ---- logs
 abbrev pub values : {T : Type 0} → List (Position T) → List T
 values = map (λ s. s.value)
@@ -40,9 +56,9 @@ in_visits f [] = []
 in_visits f (v ∷ vs) = in_visits f vs ++ values (f v.account)
 
 -- and then the account of the pass that the end has
-abbrev pub log_in : {T : Type 0} → (Account T → List (Position T)) → List (Visit T) → Option (Inside T) → List T
+abbrev pub log_in : {T : Type 0} → (Account T → List (Position T)) → List (Visit T) → Option (View T) → List T
 log_in f vs None = in_visits f vs
-log_in f vs (Some i) = in_visits f vs ++ values (f (account_in i))
+log_in f vs (Some v) = in_visits f vs ++ values (f v.account)
 
 -- ---- an end that was given back
 pub record Log (T : Type 0) : Type 0 where

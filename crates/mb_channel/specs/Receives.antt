@@ -1,38 +1,22 @@
 -- What a receive came to.
-use Rattle.std.specs.Prelude.{ℕ, ◌≡◌, ◌<◌, ◌≤◌, ◌⊎◌, Option, None, Some, is_some, false}
+use Rattle.std.specs.Prelude.{◌≡◌, ◌<◌, ◌⊎◌, Some, false}
 use Rattle.mb_segment.specs.Moves.{SawAllTaken, found_empty}
-use Rattle.mb_channel.specs.declared.end.End.{End}
-use Rattle.mb_channel.specs.declared.inside.Inside.{Inside}
+use Rattle.mb_channel.specs.Types.{View}
 use Rattle.mb_channel.specs.declared.tried.Tried.{Tried}
 use Rattle.mb_channel.specs.declared.tried.Tried.TheVariants.{Again, Empty, Value}
-use Rattle.mb_channel.specs.Ends.{view_of}
+use Rattle.mb_channel.specs.Ends.{Standing}
+use Rattle.mb_channel.specs.Inside.{found_there}
 
--- how often its pass looked, and found that none waits in the segment
-abbrev pub found_in : {T : Type 0} → Inside T → ℕ
-found_in i = found_empty i.pass.seat.me.0
+-- since v, it looked in the segment where it is, and found that none waits there. At that moment all was claimed that it
+-- had sent or seen marked there
+abbrev pub SawEmpty : {T : Type 0} → Standing T → Standing T → Type 0
+SawEmpty {T} v w = (x : View T) × (w.pass ≡ Some x) × SawAllTaken x
+    × (((v.chair.me.0.at < w.chair.me.0.at) × (0 < found_empty x))
+    ⊎ ((v.chair.me.0.at ≡ w.chair.me.0.at) × (found_there v.pass < found_empty x)))
 
-abbrev pub found_there : {T : Type 0} → Option (Inside T) → ℕ
-found_there None = 0
-found_there (Some i) = found_in i
-
--- it found that once more at least. At that moment all was claimed that it had sent or seen marked in this segment
-abbrev pub SawNothing : {T : Type 0} → Inside T → Inside T → Type 0
-SawNothing i j = SawAllTaken j.pass.seat.me.0 × (found_in i < found_in j)
-
--- the end has gone on, or is still there, and found that as often or more
-abbrev pub IsLater : {T : Type 0} → End T → End T → Type 0
-IsLater old new = ((view_of old).at < (view_of new).at)
-    ⊎ (((view_of old).at ≡ (view_of new).at) × (found_there old.inside ≤ found_there new.inside))
-
--- it found that in the segment where it is, since `old`
-abbrev pub SawEmpty : {T : Type 0} → End T → End T → Type 0
-SawEmpty {T} old new = (i : Inside T) × (new.inside ≡ Some i) × SawAllTaken i.pass.seat.me.0
-    × ((((view_of old).at < (view_of new).at) × (0 < found_in i))
-    ⊎ (((view_of old).at ≡ (view_of new).at) × (found_there old.inside < found_in i)))
-
--- it is behind the last segment that there was when it looked
-abbrev pub FoundNone : {T : Type 0} → End T → Type 0
-FoundNone e = (is_some e.inside ≡ false) × ((view_of e).found ≡ Some (view_of e).at)
+-- it is in no segment. Since v, it looked behind the last one, where it may receive: at that moment nothing waited in any
+abbrev pub FoundNone : {T : Type 0} → Standing T → Standing T → Type 0
+FoundNone v w = (w.chair.me.0.inside ≡ false) × (v.chair.me.0.found < w.chair.me.0.found)
 
 -- a value was received, none was there, or that is not known
 abbrev pub OfTried : {T : Type 0} → Tried T → (T → Type 0) → Type 0 → Type 0 → Type 0

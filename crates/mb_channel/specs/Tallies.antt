@@ -1,5 +1,5 @@
 -- The numbers of ends, senders and receivers, and the end of the list.
-use Rattle.std.specs.Prelude.{ℕ, Bool, Some, false, true, ◌+◌, ◌-◌, ◌≡◌, ◌≢◌, ◌≤◌, ◌⊎◌}
+use Rattle.std.specs.Prelude.{ℕ, suc, Bool, Some, false, true, length, if◌then◌else◌, ◌+◌, ◌-◌, ◌≡◌, ◌≢◌, ◌≤◌, ◌⊎◌}
 use Rattle.atomic_table.specs.Table.{Step}
 use Rattle.mb_channel.specs.Types.{Homes, Knows}
 use Rattle.mb_channel.specs.Homes.{Sat}
@@ -33,9 +33,18 @@ saw_closed v = record v { shut = true }
 abbrev pub saw_open : {T : Type 0} → Knows T → Knows T
 saw_open v = record v { may_add = v.holds }
 
--- a load of the number of senders, and of the mark
+-- it has the lock, and is behind the last segment
+abbrev pub IsLast : {T : Type 0} → Knows T → Type 0
+IsLast v = (v.holds ≡ true) × (length v.before ≡ v.at)
+
+-- if it may receive there, it counts that
+abbrev pub found_none : {T : Type 0} → Knows T → Knows T
+found_none v = record v { found = if v.takes then suc v.found else v.found }
+
+-- a load of the number of senders by an end behind the last segment, which counts that if one is left; and of the mark
 abbrev pub sees_senders : {T : Type 0} → Step (Homes T) → Sat T → ℕ → Sat T → Type 0
-sees_senders st m r n = (n.1 ≡ m.1) × (r ≡ 0 → (n.0 ≡ saw_none m.0) × (m.0.sends ≡ 0)) × (r ≢ 0 → n.0 ≡ m.0)
+sees_senders st m r n = (n.1 ≡ m.1) × IsLast m.0 × (r ≡ 0 → (n.0 ≡ saw_none m.0) × (m.0.sends ≡ 0))
+    × (r ≢ 0 → n.0 ≡ found_none m.0)
 
 abbrev pub sees_mark : {T : Type 0} → Step (Homes T) → Sat T → ℕ → Sat T → Type 0
 sees_mark st m r n = (n.1 ≡ m.1) × (r ≡ 0 → n.0 ≡ saw_closed m.0)
@@ -50,9 +59,5 @@ closing st m r n = (n.1 ≡ m.1) × (n.0 ≡ record m.0 { may_add = false; shut 
 abbrev pub told_last : {T : Type 0} → ℕ → Knows T → Knows T
 told_last n v = record v { last = Some n }
 
--- it found just n segments
-abbrev pub found_none : {T : Type 0} → ℕ → Knows T → Knows T
-found_none n v = record v { found = Some n }
-
-abbrev pub IsTold : {T : Type 0} → ℕ → Knows T → Knows T → Type 0
-IsTold n v w = (w ≡ told_last n (saw_closed v)) ⊎ ((w ≡ told_last n (saw_none v)) × (v.sends ≡ 0))
+abbrev pub KnowsLast : {T : Type 0} → ℕ → Knows T → Knows T → Type 0
+KnowsLast n v w = (w ≡ told_last n (saw_closed v)) ⊎ ((w ≡ told_last n (saw_none v)) × (v.sends ≡ 0))

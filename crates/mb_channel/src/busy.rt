@@ -43,12 +43,13 @@ impl<T: Drop> Busy<T> {
     ghost use Rattle.std.specs.Prelude.{IfErr, IfOk};
     ghost use Rattle.mb_channel.specs.declared.busy.Debt.TheVariants as owed;
     ghost use Rattle.mb_channel.specs.Wakes.{Tells, one_if, wakes_by, wakes_in};
-    ghost use Rattle.mb_channel.specs.Work.{IsStill, work_in, work_of};
+    ghost use Rattle.mb_channel.specs.Work.{IsAwake, IsStill, work_in, work_of};
 
     /// Tries to pay a token.
     fn give_token(&mut self) -> bool
         requires token { self.old.debt ≡ owed.Token }
         ensures still { IsStill (work_of self.old) (work_of self.new) }
+        ensures awake { IsAwake self.new }
         ensures wakes { Tells (one_if result) (wakes_by self.old) (wakes_by self.new) }
     {
         match self.segment.wake(&mut self.pass) {
@@ -68,6 +69,7 @@ impl<T: Drop> Busy<T> {
     fn give_tokens(&mut self) -> bool
         requires tokens { self.old.debt ≡ owed.Tokens }
         ensures still { IsStill (work_of self.old) (work_of self.new) }
+        ensures awake { IsAwake self.new }
         ensures wakes { Tells (one_if result) (wakes_by self.old) (wakes_by self.new) }
     {
         match self.segment.wake_all(&mut self.pass) {
@@ -84,6 +86,7 @@ impl<T: Drop> Busy<T> {
     pub(crate) fn leave(&mut self)
         requires listed { self.old.debt ≡ owed.Leave }
         ensures still { IsStill (work_of self.old) (work_of self.new) }
+        ensures awake { IsAwake self.new }
         ensures wakes { Tells 0 (wakes_by self.old) (wakes_by self.new) }
     {
         match self.segment.leave(&mut self.pass) {
@@ -97,6 +100,7 @@ impl<T: Drop> Busy<T> {
     fn give_unseen(&mut self) -> bool
         requires unseen { self.old.debt ≡ owed.Unseen }
         ensures still { IsStill (work_of self.old) (work_of self.new) }
+        ensures awake { IsAwake self.new }
         ensures wakes { Tells (one_if result) (wakes_by self.old) (wakes_by self.new) }
     {
         match self.segment.wake(&mut self.pass) {
@@ -113,8 +117,9 @@ impl<T: Drop> Busy<T> {
     }
 
     /// One that has to look, or sleeps, owes something else in its place.
-    fn give_up(&mut self)
+    pub(crate) fn give_up(&mut self)
         ensures still { IsStill (work_of self.old) (work_of self.new) }
+        ensures awake { IsAwake self.new }
         ensures wakes { Tells 0 (wakes_by self.old) (wakes_by self.new) }
     {
         match self.debt {
@@ -137,6 +142,7 @@ impl<T: Drop> Busy<T> {
     /// Tries to pay, with a few accesses. It tells whether a thread has to be woken now. One that sleeps stops to wait.
     pub(crate) fn pay_some(&mut self) -> bool
         ensures still { IsStill (work_of self.old) (work_of self.new) }
+        ensures awake { IsAwake self.new }
         ensures wakes { Tells (one_if result) (wakes_by self.old) (wakes_by self.new) }
     {
         match self.debt {

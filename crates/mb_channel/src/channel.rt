@@ -5,6 +5,9 @@ use crate::inside::Inside;
 use crate::list::List;
 use std::alloc::Global;
 
+/// How often a call that never waits leaves a segment or comes to one, at most.
+pub(crate) const TRIES: u32 = 4;
+
 /// Why a call could not be made. Nothing has changed.
 #[derive(Clone, Copy, PartialEq, Eq, Debug, Drop)]
 pub enum Refused {
@@ -32,8 +35,8 @@ impl<T: Drop> Channel<T> {
     ghost use Rattle.std.specs.Prelude.{◌≡◌, ◌<◌, true, false, is_some, Err, IfErr, IfOk};
     ghost use Rattle.mb_channel.specs.declared.channel.Refused.TheVariants.{Closed, NoMemory};
     ghost use Rattle.mb_channel.specs.Answers.{IfClosed};
-    ghost use Rattle.mb_channel.specs.Receives.{FoundNone, IsLater};
-    ghost use Rattle.mb_channel.specs.Ends.{IsBehind, IsEndOf, IsOver, IsSame, SawOver, got_by, sent_by, view_of};
+    ghost use Rattle.mb_channel.specs.Receives.{FoundNone};
+    ghost use Rattle.mb_channel.specs.Ends.{IsBehind, IsEndOf, IsOver, IsSame, SawOver, got_by, sent_by, stand_of, view_of};
     ghost use Rattle.mb_channel.specs.Wakes.{Tells, wakes_of};
 
     /// Adds a segment where the end is, if there is none yet. A list that is closed stays as it is: the end hears that
@@ -42,7 +45,6 @@ impl<T: Drop> Channel<T> {
         requires channel { IsEndOf self.now end.old }
         requires sender { 0 < (view_of end.old).sends }
         ensures end { IsSame end.old end.new }
-        ensures later { IsLater end.old end.new }
         ensures sent { sent_by end.new ≡ sent_by end.old }
         ensures got { got_by end.new ≡ got_by end.old }
         ensures wakes { Tells 0 (wakes_of end.old) (wakes_of end.new) }
@@ -66,12 +68,12 @@ impl<T: Drop> Channel<T> {
         requires outside { is_some end.old.inside ≡ false }
         requires side { takes ≡ true → (view_of end.old).takes ≡ true }
         ensures end { IsSame end.old end.new }
-        ensures later { IsLater end.old end.new }
         ensures sent { sent_by end.new ≡ sent_by end.old }
         ensures got { got_by end.new ≡ got_by end.old }
         ensures wakes { Tells 0 (wakes_of end.old) (wakes_of end.new) }
         ensures takes { takes ≡ true → (view_of end.new).takes ≡ true }
-        ensures none { IfOk result (λ there. there ≡ false → FoundNone end.new) }
+        ensures none { takes ≡ true → IfOk result (λ there. there ≡ false
+            → FoundNone (stand_of end.old) (stand_of end.new)) }
         ensures closed { IfErr result (λ why. IfClosed why (IsBehind end.new)) }
         ensures still { IsBehind end.old → result ≡ Err Closed }
     {
@@ -109,12 +111,12 @@ impl<T: Drop> Channel<T> {
         requires side { takes ≡ true → (view_of end.old).takes ≡ true }
         requires sender { takes ≡ false → 0 < (view_of end.old).sends }
         ensures end { IsSame end.old end.new }
-        ensures later { IsLater end.old end.new }
         ensures sent { sent_by end.new ≡ sent_by end.old }
         ensures got { got_by end.new ≡ got_by end.old }
         ensures wakes { Tells 0 (wakes_of end.old) (wakes_of end.new) }
         ensures takes { takes ≡ true → (view_of end.new).takes ≡ true }
-        ensures none { IfOk result (λ there. there ≡ false → FoundNone end.new) }
+        ensures none { IfOk result (λ there. there ≡ false
+            → FoundNone (stand_of end.old) (stand_of end.new)) }
         ensures closed { IfErr result (λ why. IfClosed why (IsBehind end.new)) }
         ensures still { IsBehind end.old → result ≡ Err Closed }
     {
@@ -131,7 +133,6 @@ impl<T: Drop> Channel<T> {
         requires channel { IsEndOf self.now end.old }
         requires over { SawOver end.old }
         ensures end { IsSame end.old end.new }
-        ensures later { IsLater end.old end.new }
         ensures sent { sent_by end.new ≡ sent_by end.old }
         ensures got { got_by end.new ≡ got_by end.old }
         ensures wakes { Tells 0 (wakes_of end.old) (wakes_of end.new) }
@@ -169,12 +170,12 @@ impl<T: Drop> Channel<T> {
         requires done { takes ≡ true → IsOver end.old }
         requires over { SawOver end.old }
         ensures end { IsSame end.old end.new }
-        ensures later { IsLater end.old end.new }
         ensures sent { sent_by end.new ≡ sent_by end.old }
         ensures got { got_by end.new ≡ got_by end.old }
         ensures wakes { Tells 0 (wakes_of end.old) (wakes_of end.new) }
         ensures takes { takes ≡ true → (view_of end.new).takes ≡ true }
-        ensures none { IfOk result (λ there. there ≡ false → FoundNone end.new) }
+        ensures none { IfOk result (λ there. there ≡ false
+            → FoundNone (stand_of end.old) (stand_of end.new)) }
         ensures closed { IfErr result (λ why. IfClosed why (IsBehind end.new)) }
         ensures still { IsBehind end.old → result ≡ Err Closed }
     {

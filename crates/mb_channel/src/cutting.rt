@@ -3,6 +3,7 @@ ghost use Rattle.std.specs.Prelude.{ℕ, ◌≡◌, ◌++◌, ◌∷◌, [], tru
 ghost use Rattle.mb_segment.specs.Vocabulary.{is_over};
 ghost use Rattle.mb_channel.specs.Inside.{account_in, told_in};
 ghost use Rattle.mb_channel.specs.Tallies.{saw_closed};
+ghost use Rattle.mb_channel.specs.Work.{IsThere, work_in};
 ghost use Rattle.mb_channel.specs.Ends.{HasEnded, IsBehind, IsEndOf, IsSame, SawOver, StaysTold, given_to, got_by, log_of, sent_by, view_of};
 
 use crate::channel::{Channel, Refused};
@@ -15,11 +16,11 @@ use std::thread::yield_now;
 impl<T: Drop> Inside<T> {
     /// Cuts the segment, and wakes all that sleep there.
     fn cut<R: Wait>(self, rt: &R) -> Inside<T>
-        ensures segment { result.segment ≡ self.segment }
         ensures sent { (account_in result).sent ≡ (account_in self).sent }
         ensures got { (account_in result).got ≡ (account_in self).got }
         ensures over { is_over result.pass.seat.me.0 ≡ true }
         ensures told { told_in result ≡ told_in self }
+        ensures there { IsThere (work_in self) (work_in result) }
     {
         let Inside { segment, pass } = self;
         let mut pass = pass.pass();
@@ -33,6 +34,7 @@ impl<T: Drop> End<T> {
     fn cut<R: Wait>(&mut self, rt: &R)
         ensures chair { self.new.chair ≡ self.old.chair }
         ensures over { SawOver self.new }
+        ensures same { IsSame self.old self.new }
         ensures sent { sent_by self.new ≡ sent_by self.old }
         ensures got { got_by self.new ≡ got_by self.old }
     {

@@ -38,13 +38,17 @@ pub enum Step<T: Drop> {
 }
 
 impl<T: Drop> End<T> {
-    ghost use Rattle.mb_channel.specs.Standing.{OfStep, stand_of};
+    ghost use Rattle.std.specs.Prelude.{is_some};
+    ghost use Rattle.mb_channel.specs.declared.debtor.Step.TheVariants as step;
+    ghost use Rattle.mb_channel.specs.Ends.{stand_of};
+    ghost use Rattle.mb_channel.specs.Standing.{OfStep};
     ghost use Rattle.mb_channel.specs.Wakes.{Tells, after_step, wakes_of};
 
     /// Tries to send a value in the segment where the end is.
     pub(crate) fn try_send(self, value: T) -> Step<T>
         ensures answer { OfStep result value (stand_of self) }
         ensures wakes { Tells 0 (wakes_of self) (after_step result) }
+        ensures outside { is_some self.inside ≡ false → result ≡ step.Over self value }
     {
         if self.inside.is_none() {
             return Step::Over(self, value);
@@ -90,8 +94,10 @@ impl<T: Drop> End<T> {
 
 impl<T: Drop> Debtor<T> {
     ghost use Rattle.std.specs.Prelude.{IfErr, IfOk};
-    ghost use Rattle.mb_channel.specs.Standing.{NoMore, stand_of, stand_with};
+    ghost use Rattle.mb_channel.specs.Ends.{stand_of};
+    ghost use Rattle.mb_channel.specs.Standing.{NoMore, stand_with};
     ghost use Rattle.mb_channel.specs.Wakes.{Tells, one_if, wakes_of, wakes_with};
+    ghost use Rattle.mb_channel.specs.Work.{IsAwake};
 
     /// Pays all, and wakes the threads.
     pub(crate) fn pay<R: Wait>(self, rt: &R) -> End<T>
@@ -120,7 +126,7 @@ impl<T: Drop> Debtor<T> {
         ensures rest { IfOk result (λ e. NoMore (stand_with self) (stand_of e)
             × (e.chair ≡ self.chair)) }
         ensures owes { IfErr result (λ d. NoMore (stand_with self) (stand_with d)
-            × (d.chair ≡ self.chair)) }
+            × (d.chair ≡ self.chair) × (d.busy.debt ≡ self.busy.debt)) }
         ensures wakes { IfOk result (λ e. Tells 0 (wakes_with self) (wakes_of e)) }
         ensures still { IfErr result (λ d. Tells 0 (wakes_with self) (wakes_with d)) }
     {
@@ -150,13 +156,23 @@ impl<T: Drop> Debtor<T> {
         }
     }
 
+    /// One that sleeps stops waiting. It has still to leave the list.
+    pub(crate) fn give_up(&mut self)
+        ensures still { NoMore (stand_with self.old) (stand_with self.new) }
+        ensures chair { self.new.chair ≡ self.old.chair }
+        ensures wakes { Tells 0 (wakes_with self.old) (wakes_with self.new) }
+        ensures awake { IsAwake self.new.busy }
+    {
+        self.busy.give_up();
+    }
+
     /// Tries to pay, with a few accesses. It tells whether the caller has to wake a thread. The end comes back once it
     /// owes nothing more.
     pub(crate) fn pay_some(self) -> (bool, Result<End<T>, Debtor<T>>)
         ensures paid { IfOk result.1 (λ e. NoMore (stand_with self) (stand_of e)
             × (e.chair ≡ self.chair)) }
         ensures owes { IfErr result.1 (λ d. NoMore (stand_with self) (stand_with d)
-            × (d.chair ≡ self.chair)) }
+            × (d.chair ≡ self.chair) × IsAwake d.busy) }
         ensures wakes { IfOk result.1
             (λ e. Tells (one_if result.0) (wakes_with self) (wakes_of e)) }
         ensures still { IfErr result.1

@@ -55,20 +55,21 @@ pub struct Receiver<T: Drop> {
 }
 
 impl<T: Drop> End<T> {
-    ghost use Rattle.std.specs.Prelude.{◌++◌, ◌∷◌, Err, IfErr, IfNone, IfSome, None, OnErr, OnOk};
-    ghost use Rattle.mb_channel.specs.Ends.{IsOver, SawOver, got_by, sent_by, view_of};
+    ghost use Rattle.std.specs.Prelude.{Err, IfErr, IfNone, IfSome, None, OnErr, OnOk};
+    ghost use Rattle.mb_channel.specs.Ends.{IsOver, SawOver, stand_of, view_of};
+    ghost use Rattle.mb_channel.specs.Standing.{NoMore, OneGot, OneSent};
 
     /// Sends a value in the segment where the end is. It comes back if the end is in none, or if no more can be sent
     /// there.
     #[inline(always)]
     pub(crate) fn send<R: Wait>(&mut self, rt: &R, value: T) -> Result<(), T>
         ensures chair { self.new.chair ≡ self.old.chair }
-        ensures sent { OnOk result (sent_by self.new ≡ sent_by self.old ++ value ∷ []) }
-        ensures back { IfErr result (λ x. (x ≡ value) × (sent_by self.new ≡ sent_by self.old)) }
+        ensures sent { OnOk result (OneSent value (stand_of self.old) (stand_of self.new)) }
+        ensures back { IfErr result (λ x. (x ≡ value)
+            × NoMore (stand_of self.old) (stand_of self.new)) }
         ensures over { OnErr result (SawOver self.new) }
         ensures outside { is_some self.old.inside ≡ false
             → (result ≡ Err value) × (self.new ≡ self.old) }
-        ensures got { got_by self.new ≡ got_by self.old }
     {
         let Some(inside) = self.inside.take() else {
             return Err(value);
@@ -84,11 +85,11 @@ impl<T: Drop> End<T> {
     pub(crate) fn receive<R: Wait>(&mut self, rt: &R) -> Option<T>
         requires takes { (view_of self.old).takes ≡ true }
         ensures chair { self.new.chair ≡ self.old.chair }
-        ensures got { IfSome result (λ x. got_by self.new ≡ got_by self.old ++ x ∷ []) }
-        ensures none { IfNone result (IsOver self.new × (got_by self.new ≡ got_by self.old)) }
+        ensures got { IfSome result (λ x. OneGot x (stand_of self.old) (stand_of self.new)) }
+        ensures none { IfNone result (IsOver self.new
+            × NoMore (stand_of self.old) (stand_of self.new)) }
         ensures outside { is_some self.old.inside ≡ false
             → (result ≡ None) × (self.new ≡ self.old) }
-        ensures sent { sent_by self.new ≡ sent_by self.old }
     {
         let inside = self.inside.take()?;
         let (inside, got) = inside.receive(rt);
@@ -101,11 +102,12 @@ impl<T: Drop> End<T> {
 }
 
 impl<T: Drop> End<T> {
-    ghost use Rattle.std.specs.Prelude.{◌++◌, ◌∷◌, IfNone, IfSome, None};
+    ghost use Rattle.std.specs.Prelude.{IfNone, IfSome, None};
     ghost use Rattle.mb_segment.specs.Waiting.{OfReceived};
     ghost use Rattle.mb_segment.specs.declared.waiting.Received.TheVariants.{Over};
-    ghost use Rattle.mb_channel.specs.Ends.{IsOver, got_by, sent_by, view_of};
-    ghost use Rattle.mb_channel.specs.Receives.{IsLater, OfTried, SawEmpty};
+    ghost use Rattle.mb_channel.specs.Ends.{IsOver, stand_of, view_of};
+    ghost use Rattle.mb_channel.specs.Receives.{OfTried, SawEmpty};
+    ghost use Rattle.mb_channel.specs.Standing.{NoMore, OneGot};
     ghost use Rattle.mb_channel.specs.Wakes.{Tells, wakes_of};
 
     /// Receives a value in the segment where the end is, until a deadline. An end that is in none is told that none can
@@ -113,14 +115,13 @@ impl<T: Drop> End<T> {
     pub(crate) fn receive_by<R: Wait + Clock>(&mut self, rt: &R, deadline: Instant) -> Received<T>
         requires takes { (view_of self.old).takes ≡ true }
         ensures chair { self.new.chair ≡ self.old.chair }
-        ensures later { IsLater self.old self.new }
         ensures answer { OfReceived result
-            (λ x. got_by self.new ≡ got_by self.old ++ x ∷ [])
-            (IsOver self.new × (got_by self.new ≡ got_by self.old))
-            (SawEmpty self.old self.new × (got_by self.new ≡ got_by self.old)) }
+            (λ x. OneGot x (stand_of self.old) (stand_of self.new))
+            (IsOver self.new × NoMore (stand_of self.old) (stand_of self.new))
+            (SawEmpty (stand_of self.old) (stand_of self.new)
+            × NoMore (stand_of self.old) (stand_of self.new)) }
         ensures outside { is_some self.old.inside ≡ false
             → (result ≡ Over) × (self.new ≡ self.old) }
-        ensures sent { sent_by self.new ≡ sent_by self.old }
     {
         let Some(inside) = self.inside.take() else {
             return Received::Over;
@@ -138,15 +139,15 @@ impl<T: Drop> End<T> {
     pub(crate) fn try_receive(&mut self) -> Option<Tried<T>>
         requires takes { (view_of self.old).takes ≡ true }
         ensures chair { self.new.chair ≡ self.old.chair }
-        ensures later { IsLater self.old self.new }
         ensures answer { IfSome result (λ t. OfTried t
-            (λ x. got_by self.new ≡ got_by self.old ++ x ∷ [])
-            (SawEmpty self.old self.new × (got_by self.new ≡ got_by self.old))
-            (got_by self.new ≡ got_by self.old)) }
-        ensures none { IfNone result (IsOver self.new × (got_by self.new ≡ got_by self.old)) }
+            (λ x. OneGot x (stand_of self.old) (stand_of self.new))
+            (SawEmpty (stand_of self.old) (stand_of self.new)
+            × NoMore (stand_of self.old) (stand_of self.new))
+            (NoMore (stand_of self.old) (stand_of self.new))) }
+        ensures none { IfNone result (IsOver self.new
+            × NoMore (stand_of self.old) (stand_of self.new)) }
         ensures outside { is_some self.old.inside ≡ false
             → (result ≡ None) × (self.new ≡ self.old) }
-        ensures sent { sent_by self.new ≡ sent_by self.old }
         ensures wakes { Tells 0 (wakes_of self.old) (wakes_of self.new) }
     {
         let inside = self.inside.take()?;

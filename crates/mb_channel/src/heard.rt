@@ -1,8 +1,9 @@
 //! The looks of a receiver that never waits, in its segment.
 ghost use Rattle.std.specs.Prelude.{◌≡◌};
-ghost use Rattle.mb_channel.specs.Receives.{found_in};
+ghost use Rattle.mb_segment.specs.Moves.{found_empty};
+ghost use Rattle.mb_channel.specs.Inside.{SawNothing};
 ghost use Rattle.mb_channel.specs.Wakes.{Tells, wakes_by, wakes_in};
-ghost use Rattle.mb_channel.specs.Work.{IfAsleep, OfHeard, SawNothing, found_of, work_in, work_of};
+ghost use Rattle.mb_channel.specs.Work.{IfAsleep, OfHeard, work_in, work_of};
 ghost use Rattle.mb_channel.specs.declared.busy.Debt.TheVariants as owed;
 
 use crate::busy::{Busy, Debt};
@@ -26,7 +27,8 @@ impl<T: Drop> Inside<T> {
     pub(crate) fn poll(self) -> (Busy<T>, Heard<T>)
         ensures looked { OfHeard result.1 (work_in self) result.0 }
         ensures wakes { Tells 0 (wakes_in self) (wakes_by result.0) }
-        ensures saw { IfAsleep result.1 (SawNothing (found_in self) result.0) }
+        ensures saw { IfAsleep result.1 (SawNothing (found_empty (work_in self).pass)
+            (work_of result.0).pass) }
     {
         let Inside { segment, pass } = self;
         let mut busy = Busy {
@@ -45,7 +47,8 @@ impl<T: Drop> Busy<T> {
         requires nothing { self.old.debt ≡ owed.Nothing }
         ensures looked { OfHeard result (work_of self.old) self.new }
         ensures wakes { Tells 0 (wakes_by self.old) (wakes_by self.new) }
-        ensures saw { IfAsleep result (SawNothing (found_of self.old) self.new) }
+        ensures saw { IfAsleep result (SawNothing (found_empty (work_of self.old).pass)
+            (work_of self.new).pass) }
     {
         match self.segment.look(&mut self.pass) {
             Look::Ready(at) => {
@@ -66,7 +69,8 @@ impl<T: Drop> Busy<T> {
         requires nothing { self.old.debt ≡ owed.Nothing }
         ensures looked { OfHeard result (work_of self.old) self.new }
         ensures wakes { Tells 0 (wakes_by self.old) (wakes_by self.new) }
-        ensures saw { IfAsleep result (SawNothing (found_of self.old) self.new) }
+        ensures saw { IfAsleep result (SawNothing (found_empty (work_of self.old).pass)
+            (work_of self.new).pass) }
     {
         if !self.segment.enter(&mut self.pass) {
             return Heard::Again;
@@ -80,7 +84,8 @@ impl<T: Drop> Busy<T> {
         requires fresh { self.old.debt ≡ owed.Fresh }
         ensures looked { OfHeard result (work_of self.old) self.new }
         ensures wakes { Tells 0 (wakes_by self.old) (wakes_by self.new) }
-        ensures saw { IfAsleep result (SawNothing (found_of self.old) self.new) }
+        ensures saw { IfAsleep result (SawNothing (found_empty (work_of self.old).pass)
+            (work_of self.new).pass) }
     {
         match self.segment.look_listed(&mut self.pass) {
             Look::Ready(at) => {

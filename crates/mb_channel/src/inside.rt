@@ -20,10 +20,9 @@ pub struct Inside<T: Drop> {
 }
 
 impl<T: Drop> Inside<T> {
-    ghost use Rattle.std.specs.Prelude.{◌++◌, ◌∷◌, [], true, IfErr, IfNone, IfSome, OnOk};
+    ghost use Rattle.std.specs.Prelude.{true, IfErr, IfNone, IfSome, OnOk};
     ghost use Rattle.mb_segment.specs.Vocabulary.{is_over};
-    ghost use Rattle.mb_channel.specs.Inside.{account_in, told_in, values};
-    ghost use Rattle.mb_channel.specs.Work.{HasSent, IsStill, work_in};
+    ghost use Rattle.mb_channel.specs.Work.{HasGot, HasSent, IsStill, IsTold, work_in};
 
     /// Sends a value here. It comes back if no more can be sent here.
     #[inline(always)]
@@ -61,13 +60,8 @@ impl<T: Drop> Inside<T> {
     /// Receives a value here. `None` only if none can come any more.
     #[inline(always)]
     pub(crate) fn receive<R: Wait>(self, rt: &R) -> (Inside<T>, Option<T>)
-        ensures segment { result.0.segment ≡ self.segment }
-        ensures got { IfSome result.1 (λ x. values (account_in result.0).got
-            ≡ values (account_in self).got ++ x ∷ []) }
-        ensures told { IfSome result.1 (λ _. told_in result.0 ≡ told_in self) }
-        ensures over { IfNone result.1 ((told_in result.0 ≡ true)
-            × ((account_in result.0).got ≡ (account_in self).got)) }
-        ensures sent { (account_in result.0).sent ≡ (account_in self).sent }
+        ensures got { IfSome result.1 (λ x. HasGot x (work_in self) (work_in result.0)) }
+        ensures over { IfNone result.1 (IsTold (work_in self) (work_in result.0)) }
     {
         let (inside, tried) = self.try_receive();
         match tried {
@@ -82,13 +76,8 @@ impl<T: Drop> Inside<T> {
     #[cold]
     #[inline(never)]
     fn receive_slowly<R: Wait>(self, rt: &R) -> (Inside<T>, Option<T>)
-        ensures segment { result.0.segment ≡ self.segment }
-        ensures got { IfSome result.1 (λ x. values (account_in result.0).got
-            ≡ values (account_in self).got ++ x ∷ []) }
-        ensures told { IfSome result.1 (λ _. told_in result.0 ≡ told_in self) }
-        ensures over { IfNone result.1 ((told_in result.0 ≡ true)
-            × ((account_in result.0).got ≡ (account_in self).got)) }
-        ensures sent { (account_in result.0).sent ≡ (account_in self).sent }
+        ensures got { IfSome result.1 (λ x. HasGot x (work_in self) (work_in result.0)) }
+        ensures over { IfNone result.1 (IsTold (work_in self) (work_in result.0)) }
     {
         let Inside { segment, pass } = self;
         let mut pass = pass.pass();
@@ -98,11 +87,13 @@ impl<T: Drop> Inside<T> {
 }
 
 impl<T: Drop> Inside<T> {
-    ghost use Rattle.std.specs.Prelude.{◌++◌, ◌∷◌, ◌≤◌, [], true, IfNone, IfSome};
+    ghost use Rattle.std.specs.Prelude.{IfNone, IfSome};
+    ghost use Rattle.mb_segment.specs.Moves.{found_empty};
     ghost use Rattle.mb_segment.specs.Waiting.{OfReceived};
-    ghost use Rattle.mb_channel.specs.Inside.{account_in, told_in, values};
-    ghost use Rattle.mb_channel.specs.Receives.{OfTried, SawNothing, found_in};
+    ghost use Rattle.mb_channel.specs.Inside.{SawNothing};
+    ghost use Rattle.mb_channel.specs.Receives.{OfTried};
     ghost use Rattle.mb_channel.specs.Wakes.{Tells, wakes_in};
+    ghost use Rattle.mb_channel.specs.Work.{HasGot, IsStill, IsTold, work_in};
 
     /// Receives a value here, until a deadline.
     pub(crate) fn receive_by<R: Wait + Clock>(
@@ -110,15 +101,9 @@ impl<T: Drop> Inside<T> {
         rt: &R,
         deadline: Instant,
     ) -> (Inside<T>, Received<T>)
-        ensures segment { result.0.segment ≡ self.segment }
-        ensures answer { OfReceived result.1
-            (λ x. values (account_in result.0).got ≡ values (account_in self).got ++ x ∷ [])
-            ((told_in result.0 ≡ true) × ((account_in result.0).got ≡ (account_in self).got))
-            (SawNothing self result.0 × ((account_in result.0).got ≡ (account_in self).got)) }
-        ensures told { OfReceived result.1 (λ _. told_in result.0 ≡ told_in self)
-            (told_in result.0 ≡ true) (told_in result.0 ≡ told_in self) }
-        ensures found { found_in self ≤ found_in result.0 }
-        ensures sent { (account_in result.0).sent ≡ (account_in self).sent }
+        ensures answer { let v = work_in self in let w = work_in result.0 in OfReceived result.1
+            (λ x. HasGot x v w) (IsTold v w)
+            (IsStill v w × SawNothing (found_empty v.pass) w.pass) }
     {
         let Inside { segment, pass } = self;
         let mut pass = pass.pass();
@@ -128,16 +113,10 @@ impl<T: Drop> Inside<T> {
 
     /// Tries to receive a value here. `None` only if none can come any more.
     pub(crate) fn try_receive(self) -> (Inside<T>, Option<Tried<T>>)
-        ensures segment { result.0.segment ≡ self.segment }
-        ensures answer { IfSome result.1 (λ t. OfTried t
-            (λ x. values (account_in result.0).got ≡ values (account_in self).got ++ x ∷ [])
-            (SawNothing self result.0 × ((account_in result.0).got ≡ (account_in self).got))
-            ((account_in result.0).got ≡ (account_in self).got)) }
-        ensures told { IfSome result.1 (λ _. told_in result.0 ≡ told_in self) }
-        ensures over { IfNone result.1 ((told_in result.0 ≡ true)
-            × ((account_in result.0).got ≡ (account_in self).got)) }
-        ensures found { found_in self ≤ found_in result.0 }
-        ensures sent { (account_in result.0).sent ≡ (account_in self).sent }
+        ensures answer { let v = work_in self in let w = work_in result.0 in IfSome result.1
+            (λ t. OfTried t (λ x. HasGot x v w)
+            (IsStill v w × SawNothing (found_empty v.pass) w.pass) (IsStill v w)) }
+        ensures over { IfNone result.1 (IsTold (work_in self) (work_in result.0)) }
         ensures wakes { Tells 0 (wakes_in self) (wakes_in result.0) }
     {
         let Inside { segment, pass } = self;

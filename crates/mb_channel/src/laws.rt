@@ -2,13 +2,15 @@
 ghost use Rattle.std.specs.Prelude.{ℕ, List, Some, length, suc, true, ◌<◌, ◌≡◌};
 ghost use mathlib.Core.Option.{some};
 ghost use lib.ListN.{get_elem?};
+ghost use Rattle.atomic_table.specs.Table.{Step};
 ghost use Rattle.mb_channel.specs.ChannelTheorem.{EachMoment, End, History, Moment, Segment, WholeLife, life};
 ghost use Rattle.mb_channel.specs.Stays.{AreStays, Told, life_of};
-ghost use Rattle.mb_channel.specs.Types.{Home, Knows};
+ghost use Rattle.mb_channel.specs.Types.{Home, Homes, Knows};
 ghost use Rattle.mb_channel.specs.Closing.{IsClosedOff, IsFinished, ListState};
-ghost use Rattle.mb_channel.specs.Homes.{AllHomes, At, IsShut, IsWhole, Keeps, sends, total};
+ghost use Rattle.mb_channel.specs.Homes.{AllHomes, At, IsShut, IsWhole, Keeps, Sat, sends, total};
 ghost use Rattle.mb_channel.specs.Lives.{HaveEnded, HaveLived, all_left, end_in};
 ghost use Rattle.mb_channel.specs.Segments.{AreLogs, EachKeeps, InTurn, KeepsEnd, TakenInTurn};
+ghost use Rattle.mb_channel.specs.Tallies.{sees_senders};
 ghost use Rattle.mb_channel.specs.Told.{AllTell};
 
 /// At each moment: if each segment keeps its own rule, and they follow each other in turn, the channel's points hold.
@@ -45,6 +47,16 @@ pub fn lives_have_the_logs<T: Drop>()
     ensures logs { (v : Knows T) (hs : List (Home T)) (ls : List (List T))
         → IsWhole v hs → HaveEnded hs ls → AllTell v hs }
 {}
+
+/// Of the moment at which an end counts that it found itself behind the last segment, as one that may receive there:
+/// nothing waits in any segment.
+pub fn none_is_true<T: Drop>()
+    ensures none { (c : ListState T) (k : Keeps c) (id r : ℕ) (s : Step (Homes T)) (v w : Sat T)
+        → get_elem? c.views id ≡ some v.0 → sees_senders s v r w → v.0.found < w.0.found
+        → AllHomes IsFinished k.homes }
+{
+    mb_segment::laws::over_is_true::<T>();
+}
 
 /// Of each moment: where an end was told that there are so many segments, there are, and no more will come, for the list
 /// is closed or no sender is left. Nothing can be sent in any of them. If the end is a receiver behind the last, nothing

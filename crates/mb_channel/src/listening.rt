@@ -1,11 +1,11 @@
 //! An end looks for values, and never waits.
 ghost use Rattle.std.specs.Prelude.{◌≡◌, true, IfErr, IfOk, is_some};
-ghost use Rattle.mb_channel.specs.Ends.{IsOver, view_of};
+ghost use Rattle.mb_channel.specs.Ends.{IsOver, stand_of, view_of};
 ghost use Rattle.mb_channel.specs.Polls.{OfLook};
-ghost use Rattle.mb_channel.specs.Receives.{found_there};
-ghost use Rattle.mb_channel.specs.Standing.{stand_of, stand_with};
+ghost use Rattle.mb_channel.specs.Receives.{SawEmpty};
+ghost use Rattle.mb_channel.specs.Standing.{stand_with};
 ghost use Rattle.mb_channel.specs.Wakes.{Tells, wakes_of, wakes_with};
-ghost use Rattle.mb_channel.specs.Work.{IfAsleep, SawNothing, Sleeps};
+ghost use Rattle.mb_channel.specs.Work.{IfAsleep, Sleeps};
 
 use crate::debtor::Debtor;
 use crate::end::End;
@@ -19,7 +19,7 @@ impl<T: Drop> End<T> {
         ensures looked { IfOk result (λ r. OfLook r.1 (stand_of self) r.0
             × (r.0.chair ≡ self.chair)) }
         ensures saw { IfOk result (λ r. IfAsleep r.1
-            (SawNothing (found_there self.inside) r.0.busy)) }
+            (SawEmpty (stand_of self) (stand_with r.0))) }
         ensures back { IfErr result (λ e. (e ≡ self) × IsOver e) }
         ensures wakes { IfOk result (λ r. Tells 0 (wakes_of self) (wakes_with r.0)) }
         ensures inside { IfOk result (λ _. is_some self.inside ≡ true) }

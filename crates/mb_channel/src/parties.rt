@@ -3,7 +3,7 @@ ghost use Rattle.std.specs.Prelude.{◌≡◌, ◌≢◌, ◌+◌, ◌<◌, ◌�
 ghost use Rattle.mb_channel.specs.Answers.{OfRetired};
 ghost use Rattle.mb_channel.specs.Homes.{IsReady, view_in};
 ghost use Rattle.mb_channel.specs.Tallies.{hires_receiver, hires_sender, retires_receiver, retires_sender};
-ghost use Rattle.mb_channel.specs.Tallies.{saw_closed, saw_none, saw_open};
+ghost use Rattle.mb_channel.specs.Tallies.{IsLast, found_none, saw_closed, saw_none, saw_open};
 
 use crate::answers::Retired;
 use crate::list::{Chair, List};
@@ -87,15 +87,16 @@ impl<T: Drop> List<T> {
             .compare_exchange::<RetiresReceiver>(chair, 3, seen, seen - 1)
     }
 
-    /// Looks whether no sender is left.
+    /// Looks whether no sender is left, behind the last segment. If one is, and the end may receive there, it counts that.
     pub(crate) fn sees_no_sender(&self, chair: &mut Chair<T>) -> bool
         requires list { chair.old.table_id ≡ self.now.table.shared.table_id }
         requires live { (view_in chair.old).live ≡ true }
+        requires last { IsLast (view_in chair.old) }
         ensures list { (chair.new.table_id ≡ chair.old.table_id) × (chair.new.id ≡ chair.old.id) }
         ensures held { chair.new.me.1 ≡ chair.old.me.1 }
         ensures none { result ≡ true → (view_in chair.new ≡ saw_none (view_in chair.old))
             × ((view_in chair.old).sends ≡ 0) }
-        ensures some { result ≡ false → view_in chair.new ≡ view_in chair.old }
+        ensures some { result ≡ false → view_in chair.new ≡ found_none (view_in chair.old) }
     {
         self.table.shared.load::<SeesSenders>(chair, 2) == 0
     }

@@ -1,26 +1,24 @@
 //! A receive that never waits, and the steps of sleep.
 ghost use Rattle.std.specs.Prelude.{◌≡◌, ◌<◌, true};
 ghost use Rattle.mb_channel.specs.Homes.{view_in};
-ghost use Rattle.mb_channel.specs.Work.{Sleeps};
+ghost use Rattle.mb_channel.specs.Work.{IsAwake, Sleeps};
 
 use crate::busy::Busy;
-use crate::channel::{Channel, Refused};
+use crate::channel::{Channel, Refused, TRIES};
 use crate::debtor::Debtor;
 use crate::end::Receiver;
 use crate::heard::Heard;
 use std::sync::Wait;
 use std::time::{Clock, Instant};
 
-/// How often it leaves a segment or comes to one, at most.
-const TRIES: u32 = 4;
-
-/// A receiver that owes something: it has to leave the list of those that wait, or to wake another. It cannot be dropped.
-/// [`Leaving::pay`] and [`Leaving::pay_some`] make a receiver of it again.
+/// A receiver that owes something: it has to leave the list of those that wait, or to wake another. It does not sleep, and
+/// cannot be dropped. [`Leaving::pay`] and [`Leaving::pay_some`] make a receiver of it again.
 pub struct Leaving<T: Drop> {
     pub(crate) debtor: Debtor<T>,
     ghost takes: { (view_in debtor.chair).takes ≡ true },
     ghost sends: { (view_in debtor.chair).sends ≡ 0 },
     ghost receives: { 0 < (view_in debtor.chair).receives },
+    ghost awake: { IsAwake debtor.busy },
 }
 
 /// A receiver that sleeps: it is in the list of those that wait, and looked there. It cannot be dropped.
@@ -40,29 +38,34 @@ pub enum Polled<T: Drop> {
     TookOwing(Leaving<T>, T),
     /// No value is there. Let the thread sleep ([`Asleep::sleep`]), and then call [`Asleep::wake_up`].
     Sleeps(Asleep<T>),
-    /// A value is being sent, another end was first, or the lock is taken. Yield, and try again.
+    /// Nothing is known: a value is being sent, another end was first, the lock is taken, or the receiver was woken for a
+    /// value that another took, or has still to come to the next segment. Yield, and try again.
     Again(Receiver<T>),
     /// The same, and something is owed.
     Owes(Leaving<T>),
-    /// Nothing waits: the receiver is behind the last segment that there is. It does not sleep. Yield, and try again.
+    /// Nothing waited: in this call, the receiver looked behind the last segment. It does not sleep. Yield, and try again.
     Empty(Receiver<T>),
     /// [`Refused::Closed`]: no value can come any more, for ever. Or ends cannot be counted.
     Refused(Receiver<T>, Refused),
 }
 
 impl<T: Drop> Channel<T> {
-    ghost use Rattle.mb_channel.specs.Ends.{IsBehind, IsEndOf};
-    ghost use Rattle.mb_channel.specs.Polls.{FoundEmpty, IfSleeps, OfPolled, TellsClosed};
-    ghost use Rattle.mb_channel.specs.Standing.{stand_of};
+    ghost use Rattle.mb_channel.specs.Answers.{IfClosed};
+    ghost use Rattle.mb_channel.specs.Ends.{IsBehind, IsEndOf, stand_of};
+    ghost use Rattle.mb_channel.specs.Polls.{OfPolled, TellsClosed};
+    ghost use Rattle.mb_channel.specs.Receives.{FoundNone, SawEmpty};
+    ghost use Rattle.mb_channel.specs.Standing.{stand_with};
     ghost use Rattle.mb_channel.specs.Wakes.{Tells, after_polled, wakes_of};
 
     /// Tries to receive the next value. If none is there, the receiver enters the list of those that wait, and looks
     /// again. It makes a few accesses, and never waits itself.
     pub fn poll_receive(&self, receiver: Receiver<T>) -> Polled<T>
         requires channel { IsEndOf self.now receiver.end }
-        ensures answer { OfPolled result (stand_of receiver.end) }
+        ensures answer { let v = stand_of receiver.end in OfPolled result v
+            (λ a. SawEmpty v (stand_with a.debtor))
+            (λ r. FoundNone v (stand_of r.end))
+            (λ r why. IfClosed why (IsBehind r.end)) }
         ensures wakes { Tells 0 (wakes_of receiver.end) (after_polled result) }
-        ensures saw { IfSleeps result (λ a. FoundEmpty receiver.end a.debtor) }
         ensures still { IsBehind receiver.end → TellsClosed result }
     {
         let Receiver { mut end } = receiver;
@@ -107,7 +110,8 @@ impl<T: Drop> Asleep<T> {
 
     /// Takes a token, if one is there, and looks. Else it sleeps on.
     pub fn wake_up(self) -> Polled<T>
-        ensures answer { OfPolled result (stand_with self.debtor) }
+        ensures answer { OfPolled result (stand_with self.debtor)
+            (λ a. Unit {0}) (λ r. ⊥) (λ r why. ⊥) }
         ensures wakes { Tells 0 (wakes_with self.debtor) (after_polled result) }
     {
         let Asleep { debtor } = self;
@@ -120,14 +124,16 @@ impl<T: Drop> Asleep<T> {
         ensures still { NoMore (stand_with self.debtor) (stand_with result.debtor) }
         ensures wakes { Tells 0 (wakes_with self.debtor) (wakes_with result.debtor) }
     {
-        let Asleep { debtor } = self;
+        let Asleep { mut debtor } = self;
+        debtor.give_up();
         Leaving { debtor }
     }
 }
 
 impl<T: Drop> Leaving<T> {
     ghost use Rattle.std.specs.Prelude.{IfErr, IfOk};
-    ghost use Rattle.mb_channel.specs.Standing.{NoMore, stand_of, stand_with};
+    ghost use Rattle.mb_channel.specs.Ends.{stand_of};
+    ghost use Rattle.mb_channel.specs.Standing.{NoMore, stand_with};
     ghost use Rattle.mb_channel.specs.Wakes.{Tells, one_if, wakes_of, wakes_with};
 
     /// The number of the segment where the tokens are given. Only who sleeps there can take them.
@@ -168,10 +174,10 @@ impl<T: Drop> Leaving<T> {
 }
 
 impl<T: Drop> Debtor<T> {
-    ghost use Rattle.mb_channel.specs.Polls.{IfSleeps, OfLook, OfPolled};
-    ghost use Rattle.mb_channel.specs.Standing.{NoMore, Standing, stand_with};
+    ghost use Rattle.mb_channel.specs.Ends.{Standing};
+    ghost use Rattle.mb_channel.specs.Polls.{OfLook, OfPolled};
+    ghost use Rattle.mb_channel.specs.Standing.{NoMore, stand_with};
     ghost use Rattle.mb_channel.specs.Wakes.{Tells, after_polled, wakes_with};
-    ghost use Rattle.mb_channel.specs.Work.{IfAsleep};
     ghost use Rattle.mb_channel.specs.declared.heard.Heard.TheVariants as looked;
 
     /// What a receiver answers after its look.
@@ -179,10 +185,10 @@ impl<T: Drop> Debtor<T> {
         requires takes { (view_in self.chair).takes ≡ true }
         requires sends { (view_in self.chair).sends ≡ 0 }
         requires receives { 0 < (view_in self.chair).receives }
-        requires sleeps { IfAsleep heard (Sleeps self.busy) }
-        ensures answer { (v : Standing T) → OfLook heard v self → OfPolled result v }
+        requires looked { (v : Standing T) × OfLook heard v self }
+        ensures answer { (v : Standing T) → OfLook heard v self → OfPolled result v
+            (λ a. (a.debtor ≡ self) × (heard ≡ looked.Asleep)) (λ r. ⊥) (λ r why. ⊥) }
         ensures wakes { Tells 0 (wakes_with self) (after_polled result) }
-        ensures sleeps { IfSleeps result (λ a. (a.debtor ≡ self) × (heard ≡ looked.Asleep)) }
     {
         match heard {
             Heard::Asleep => Polled::Sleeps(Asleep { debtor: self }),
@@ -200,9 +206,10 @@ impl<T: Drop> Debtor<T> {
         requires takes { (view_in self.chair).takes ≡ true }
         requires sends { (view_in self.chair).sends ≡ 0 }
         requires receives { 0 < (view_in self.chair).receives }
-        ensures answer { (v : Standing T) → NoMore v (stand_with self) → OfPolled result v }
+        requires awake { IsAwake self.busy }
+        ensures answer { (v : Standing T) → NoMore v (stand_with self) → OfPolled result v
+            (λ a. ⊥) (λ r. ⊥) (λ r why. ⊥) }
         ensures wakes { Tells 0 (wakes_with self) (after_polled result) }
-        ensures awake { IfSleeps result (λ _. ⊥) }
     {
         match self.rest() {
             Ok(end) => Polled::Again(Receiver { end }),

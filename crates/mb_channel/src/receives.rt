@@ -2,19 +2,16 @@
 ghost use Rattle.std.specs.Prelude.{◌≡◌, ◌⊎◌, ◌++◌, ◌∷◌, [], Err, IfErr, IfNone, IfOk, IfSome, OnErr};
 ghost use Rattle.mb_channel.specs.declared.channel.Refused.TheVariants.{Closed};
 ghost use Rattle.mb_channel.specs.Answers.{IfClosed};
-ghost use Rattle.mb_channel.specs.Ends.{IsBehind, IsEndOf, IsOver, IsSame, got_by, sent_by};
+ghost use Rattle.mb_channel.specs.Ends.{IsBehind, IsEndOf, IsOver, IsSame, got_by, sent_by, stand_of};
 ghost use Rattle.mb_channel.specs.Receives.{FoundNone, OfTried, SawEmpty};
 ghost use Rattle.mb_channel.specs.Wakes.{Tells, wakes_of};
 
-use crate::channel::{Channel, Refused};
+use crate::channel::{Channel, Refused, TRIES};
 use crate::end::Receiver;
 use crate::tried::Tried;
 use mb_segment::Received;
 use std::sync::Wait;
 use std::time::{Clock, Instant};
-
-/// How often a call that never waits leaves a segment or comes to one, at most.
-const TRIES: u32 = 4;
 
 impl<T: Drop> Channel<T> {
     /// Receives the next value, and sleeps until there is one. [`Refused::Closed`] is told only behind the last segment,
@@ -76,7 +73,8 @@ impl<T: Drop> Channel<T> {
         ensures got { IfOk result (λ o. IfSome o (λ x. got_by receiver.new.end
             ≡ got_by receiver.old.end ++ x ∷ [])) }
         ensures late { IfOk result (λ o. IfNone o
-            ((SawEmpty receiver.old.end receiver.new.end ⊎ FoundNone receiver.new.end)
+            ((SawEmpty (stand_of receiver.old.end) (stand_of receiver.new.end)
+            ⊎ FoundNone (stand_of receiver.old.end) (stand_of receiver.new.end))
             × (got_by receiver.new.end ≡ got_by receiver.old.end))) }
         ensures none { OnErr result (got_by receiver.new.end ≡ got_by receiver.old.end) }
         ensures closed { IfErr result (λ why. IfClosed why (IsBehind receiver.new.end)) }
@@ -106,7 +104,8 @@ impl<T: Drop> Channel<T> {
         ensures end { IsSame receiver.old.end receiver.new.end }
         ensures answer { IfOk result (λ t. OfTried t
             (λ x. got_by receiver.new.end ≡ got_by receiver.old.end ++ x ∷ [])
-            ((SawEmpty receiver.old.end receiver.new.end ⊎ FoundNone receiver.new.end)
+            ((SawEmpty (stand_of receiver.old.end) (stand_of receiver.new.end)
+            ⊎ FoundNone (stand_of receiver.old.end) (stand_of receiver.new.end))
             × (got_by receiver.new.end ≡ got_by receiver.old.end))
             (got_by receiver.new.end ≡ got_by receiver.old.end)) }
         ensures none { OnErr result (got_by receiver.new.end ≡ got_by receiver.old.end) }

@@ -1,25 +1,25 @@
 //! Samples of the theorem's definitions: what they admit, and what only looks right. The functions compute nothing:
 //! their contracts are the samples.
 ghost use Rattle.std.specs.Prelude.{ℕ, Some, [], ◌+◌, ◌∷◌, ◌≡◌, true, false};
-ghost use Rattle.mb_segment.specs.Vocabulary.{SawAllTaken};
+ghost use Rattle.mb_segment.specs.Vocabulary.{SawAllTaken, found_empty};
 ghost use Rattle.mb_channel.specs.ChannelSamples.{forgotten, one_sender, one_taken, overtaken, overtaken_life, swapped_life};
 ghost use Rattle.mb_channel.specs.ChannelSamples.{taken_twice, two_and_two, two_segments, two_taken, unheeded, unheeded_life, unheeded_take};
-ghost use Rattle.mb_channel.specs.ChannelSamples.{ended, refused_beside_a_receiver, told_beside_a_sender, told_too_soon, value_behind};
+ghost use Rattle.mb_channel.specs.ChannelSamples.{ended, refused_beside_a_receiver, sleepers, told_beside_a_sender, told_too_soon, two_forsaken, two_wait, value_behind};
 ghost use Rattle.mb_channel.specs.ChannelSamples.{last_drawn, last_forgotten, looked_for, overslept, slept_past_the_end, slept_through_the_end, token_elsewhere};
-ghost use Rattle.mb_channel.specs.ChannelSamples.{sleepers, two_forsaken, two_wait};
 ghost use Rattle.mb_channel.specs.ChannelTheorem.{EachBounded, EachMoment, WholeLife};
 ghost use Rattle.mb_channel.specs.ChannelSamples.{call, claim, entry, history, receiver, sender};
 ghost use Rattle.mb_channel.specs.LifeSamples.{TellsOf, by_passes, ends_for_passes, last_end, one_got, stay, two_ends, two_sent, two_stays};
 ghost use Rattle.mb_channel.specs.Homes.{IsDone, IsNext, came_back, first_view};
-ghost use Rattle.mb_channel.specs.Tallies.{IsTold};
-ghost use Rattle.mb_channel.specs.Types.{Home};
+ghost use Rattle.mb_channel.specs.Tallies.{KnowsLast};
+ghost use Rattle.mb_channel.specs.Types.{Home, View};
 ghost use Rattle.mb_channel.specs.Segments.{AreLogs, EachKeeps, InTurn, KeepsEnd, TakenInTurn};
 ghost use Rattle.mb_channel.specs.Stays.{AllBy, AllTo, AreApart, DidSo, Told, by_ends};
 ghost use Rattle.mb_channel.specs.Lives.{HaveEnded, end_in};
-ghost use Rattle.mb_channel.specs.Receives.{SawEmpty, SawNothing, found_in};
+ghost use Rattle.mb_channel.specs.Ends.{stand_of};
+ghost use Rattle.mb_channel.specs.Inside.{SawNothing};
+ghost use Rattle.mb_channel.specs.Receives.{FoundNone, SawEmpty};
 ghost use Rattle.mb_channel.specs.Wakes.{Tells, wakes};
 ghost use Rattle.mb_channel.specs.declared.end.End.{End};
-ghost use Rattle.mb_channel.specs.declared.inside.Inside.{Inside};
 
 /// Points 1 to 3. A life over two segments is admitted. Refused: values of one sender that stand in another order, a
 /// value that stands before one that its sender knew of, a value that two received, a take before one that its receiver
@@ -113,22 +113,25 @@ pub fn sample_visits()
 
 /// An end is told "closed" where it saw that no sender is left, or that the list is closed. Refused: that it saw neither.
 pub fn sample_told()
-    ensures alone { IsTold 2 (record (first_view {T = ℕ}) { sends = 0 })
+    ensures alone { KnowsLast 2 (record (first_view {T = ℕ}) { sends = 0 })
         (record first_view { sends = 0; alone = true; last = Some 2 }) }
-    ensures sender { IsTold 2 (first_view {T = ℕ})
+    ensures sender { KnowsLast 2 (first_view {T = ℕ})
         (record first_view { alone = true; last = Some 2 }) → ⊥ }
-    ensures shut { IsTold 2 (first_view {T = ℕ})
+    ensures shut { KnowsLast 2 (first_view {T = ℕ})
         (record first_view { shut = true; last = Some 2 }) }
-    ensures neither { IsTold 2 (first_view {T = ℕ}) (record first_view { last = Some 2 }) → ⊥ }
+    ensures neither { KnowsLast 2 (first_view {T = ℕ}) (record first_view { last = Some 2 }) → ⊥ }
 {}
 
 /// A receiver finds its segment empty. Admitted: it looked in the call, and all was claimed that it had sent or seen.
-/// Refused: it looked only before the call. So of an end.
+/// Refused: it looked only before the call. So of an end, and of its looks behind the last segment.
 pub fn sample_empty()
-    ensures looked { (i j : Inside ℕ) → SawAllTaken j.pass.seat.me.0 → found_in j ≡ found_in i + 1
-        → SawNothing i j }
-    ensures before { (i : Inside ℕ) → SawNothing i i → ⊥ }
-    ensures end { (e : End ℕ) → SawEmpty e e → ⊥ }
+    ensures looked { (v w : View ℕ) → SawAllTaken w → found_empty w ≡ found_empty v + 1
+        → SawNothing (found_empty v) w }
+    ensures before { (v : View ℕ) → SawNothing (found_empty v) v → ⊥ }
+    ensures end { (e : End ℕ) → SawEmpty (stand_of e) (stand_of e) → ⊥ }
+    ensures none { (e f : End ℕ) → f.chair.me.0.inside ≡ false
+        → f.chair.me.0.found ≡ e.chair.me.0.found + 1 → FoundNone (stand_of e) (stand_of f) }
+    ensures stale { (e : End ℕ) → FoundNone (stand_of e) (stand_of e) → ⊥ }
 {}
 
 /// What a caller was told. Admitted: of a token given, and of none while one is still to be told. Refused: of none though

@@ -2,14 +2,11 @@
 ghost use Rattle.std.specs.Prelude.{◌≡◌, ◌<◌};
 ghost use Rattle.mb_channel.specs.Homes.{view_in};
 
-use crate::channel::Channel;
+use crate::channel::{Channel, TRIES};
 use crate::debtor::{Debtor, Step};
 use crate::end::Sender;
 use crate::sends::NotSent;
 use std::sync::Wait;
-
-/// How often it leaves a segment or comes to one, at most.
-const TRIES: u32 = 4;
 
 /// A sender whose value is sent, and that owes something for it. It cannot be dropped. [`Owing::pay`] and
 /// [`Owing::pay_some`] make a sender of it again.
@@ -31,8 +28,8 @@ pub enum Sending<T: Drop> {
 }
 
 impl<T: Drop> Channel<T> {
-    ghost use Rattle.mb_channel.specs.Ends.{IsBehind, IsEndOf};
-    ghost use Rattle.mb_channel.specs.Standing.{OfSending, TellsClosed, stand_of};
+    ghost use Rattle.mb_channel.specs.Ends.{IsBehind, IsEndOf, stand_of};
+    ghost use Rattle.mb_channel.specs.Standing.{OfSending, TellsClosed};
     ghost use Rattle.mb_channel.specs.Wakes.{Tells, after_sending, wakes_of};
 
     /// Tries to send a value, behind all that the sender sent before. It makes a few accesses, and wakes nobody.
@@ -64,7 +61,8 @@ impl<T: Drop> Channel<T> {
 
 impl<T: Drop> Owing<T> {
     ghost use Rattle.std.specs.Prelude.{IfErr, IfOk};
-    ghost use Rattle.mb_channel.specs.Standing.{NoMore, stand_of, stand_with};
+    ghost use Rattle.mb_channel.specs.Ends.{stand_of};
+    ghost use Rattle.mb_channel.specs.Standing.{NoMore, stand_with};
     ghost use Rattle.mb_channel.specs.Wakes.{Tells, one_if, wakes_of, wakes_with};
 
     /// The number of the segment where the tokens are given. Only who sleeps there can take them.

@@ -48,6 +48,6 @@ pub struct Knows<T: Drop> {
     pub shut: bool,
     /// It was told that there are so many segments, and never more.
     pub last: Option<u64>,
-    /// When it last found no segment at its place, there were just so many.
-    pub found: Option<u64>,
+    /// How often it looked as one that may receive, and found itself behind the last segment. Nothing waited then.
+    pub found: u64,
 }

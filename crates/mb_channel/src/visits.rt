@@ -5,7 +5,7 @@ ghost use Rattle.mb_segment.specs.Seats.{view_in as pass_view};
 ghost use Rattle.mb_segment.specs.Vocabulary.{IsFree, blank};
 ghost use Rattle.mb_channel.specs.Homes.{At, Changes, HasIssued, HasTakenBack, HoldsHomes, IsNext, IsPassOf, IsReady};
 ghost use Rattle.mb_channel.specs.Homes.{MayGive, came_to, left_segment, out_of, unlocked, view_in, went_on};
-ghost use Rattle.mb_channel.specs.Tallies.{IsTold, found_none, told_last};
+ghost use Rattle.mb_channel.specs.Tallies.{KnowsLast, found_none, told_last};
 ghost use Rattle.mb_channel.specs.Answers.{OfCame};
 
 use crate::answers::Came;
@@ -191,21 +191,6 @@ impl<T: Drop> List<T> {
         self.give::<F>(chair);
     }
 
-    /// Tells an end that there are just so many segments, and none at its place, and gives the lock back.
-    fn tell_none<F: Change<T>>(&self, chair: &mut Chair<T>, at: usize)
-        requires list { chair.old.table_id ≡ self.now.table.shared.table_id }
-        requires picked { F.of ≡ found_none at }
-        requires held { ((view_in chair.old).live ≡ true) × ((view_in chair.old).holds ≡ true) }
-        requires homes { HoldsHomes chair.old.me (λ hs. hs ≡ (view_in chair.old).before) }
-        requires last { length (view_in chair.old).before ≡ at }
-        ensures list { (chair.new.table_id ≡ chair.old.table_id) × (chair.new.id ≡ chair.old.id) }
-        ensures view { (view_in chair.new ≡ found_none at (unlocked (view_in chair.old)))
-            × (chair.new.me.1 ≡ []) }
-    {
-        let _ = at;
-        self.give::<F>(chair);
-    }
-
     /// Tells an end that is behind the last segment whether one may still come, and gives the lock back.
     fn tell(&self, chair: &mut Chair<T>, at: usize) -> Came<T>
         requires list { chair.old.table_id ≡ self.now.table.shared.table_id }
@@ -216,8 +201,9 @@ impl<T: Drop> List<T> {
         ensures list { (chair.new.table_id ≡ chair.old.table_id) × (chair.new.id ≡ chair.old.id) }
         ensures answer { OfCame result (λ _ _. ⊥) (λ _. ⊥)
             ((chair.new.me.1 ≡ [])
-            × (view_in chair.new ≡ found_none at (unlocked (view_in chair.old))))
-            ((chair.new.me.1 ≡ []) × IsTold at (unlocked (view_in chair.old)) (view_in chair.new))
+            × (view_in chair.new ≡ found_none (unlocked (view_in chair.old))))
+            ((chair.new.me.1 ≡ [])
+            × KnowsLast at (unlocked (view_in chair.old)) (view_in chair.new))
             ⊥ }
     {
         if self.sees_closed(chair) {
@@ -228,7 +214,7 @@ impl<T: Drop> List<T> {
             self.tell_last::<Brand>(chair, at);
             return Came::Closed;
         }
-        self.tell_none::<Brand>(chair, at);
+        self.unlock(chair);
         Came::NotYet
     }
 
@@ -247,8 +233,8 @@ impl<T: Drop> List<T> {
             × (pass_view p ≡ blank) × IsFree p)
             (λ k. (at < k) × (chair.new.me.1 ≡ [])
             × (view_in chair.new ≡ went_on k (unlocked (view_in chair.old))))
-            ((chair.new.me.1 ≡ []) × (view_in chair.new ≡ found_none at (view_in chair.old)))
-            ((chair.new.me.1 ≡ []) × IsTold at (view_in chair.old) (view_in chair.new))
+            ((chair.new.me.1 ≡ []) × (view_in chair.new ≡ found_none (view_in chair.old)))
+            ((chair.new.me.1 ≡ []) × KnowsLast at (view_in chair.old) (view_in chair.new))
             (chair.new.me ≡ chair.old.me) }
     {
         if !self.try_lock(chair) {

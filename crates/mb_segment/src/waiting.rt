@@ -88,6 +88,7 @@ impl<T: Drop, A: Allocator + Drop> Segment<T, A> {
         ensures sent { IfOk result (λ _. (at : ℕ)
             × (bare (view_in pass.new) ≡ sent_at at value (calm (view_in pass.old)))
             × MaySend (view_in pass.old)) }
+        ensures found { found_empty (view_in pass.old) ≤ found_empty (view_in pass.new) }
         ensures refused { IfErr result (λ e. (value_of e ≡ value)
             × (bare (view_in pass.new) ≡ calm (view_in pass.old))
             × OfNotSent e ((view_in pass.new).sight.full ≡ true)
@@ -290,6 +291,7 @@ impl<T: Drop, A: Allocator + Drop> Segment<T, A> {
             × MayTake (view_in pass.old)) }
         ensures over { IfNone result
             (bare (view_in pass.new) ≡ told (calm (view_in pass.old))) }
+        ensures found { found_empty (view_in pass.old) ≤ found_empty (view_in pass.new) }
         ensures free { IsFree pass.new }
     {
         for _ in rt.forever() {

@@ -1,6 +1,6 @@
 use Rattle.std.proofs.Common.{◌≡◌}
-use Rattle.mb_channel.specs.Ends.{IsBehind}
-use Rattle.mb_channel.specs.Standing.{NoMore, stand_of}
+use Rattle.mb_channel.specs.Ends.{IsBehind, stand_of}
+use Rattle.mb_channel.specs.Standing.{NoMore}
 use Rattle.mb_channel.specs.Wakes.{Tells, wakes_of}
 use Rattle.mb_channel.proofs.channel.Channel.try_send.Given as goal
 

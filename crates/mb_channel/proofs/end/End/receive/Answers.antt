@@ -1,8 +1,14 @@
 use Rattle.std.proofs.Common.{sym, ◌∙◌}
-use Rattle.mb_channel.proofs.EndLogs.{log_more_if}
+use Rattle.mb_channel.specs.Work.{work_in}
+use Rattle.mb_channel.proofs.EndLogs.{got_if, told_if}
 use Rattle.mb_channel.proofs.end.End.receive.Goals as goal
 
 pub returns-else-is_none-clause-got : goal.returns-else-is_none-clause-got
 returns-else-is_none-clause-got g c = let self = c.args.self.now in
-    log_more_if (λ a. a.got) self.chair.me.0.visits self.inside c.in_ok-inside.inside c.receive-inside.result.0
-    c.receive-inside.result.1 (sym c.take.ensures.value ∙ c.in_ok-inside.was) c.receive-inside.ensures.got
+    got_if self.chair self.inside c.in_ok-inside.inside (work_in c.receive-inside.result.0) c.receive-inside.result.1
+    (sym c.take.ensures.value ∙ c.in_ok-inside.was) c.receive-inside.ensures.got
+
+pub returns-then-is_none-clause-none : goal.returns-then-is_none-clause-none
+returns-then-is_none-clause-none g c = let self = c.args.self.now in
+    told_if self.chair self.inside c.in_ok-inside.inside (work_in c.receive-inside.result.0) c.receive-inside.result.1
+    (sym c.take.ensures.value ∙ c.in_ok-inside.was) c.receive-inside.ensures.over

@@ -6,5 +6,6 @@ pub load-requires : goal.load-requires
 load-requires g c = let shape = c.args.self.now.shape in (
   c.requires.list,
   omega (arith, shape.0),
-  sees_whether c.args.self.now.table.shared.table_id.slots c.args.chair.now.id c.args.chair.now.me c.requires.live,
+  sees_whether c.args.self.now.table.shared.table_id.slots c.args.chair.now.id c.args.chair.now.me c.requires.live
+      c.requires.last,
 )
