@@ -110,17 +110,25 @@ impl<T: Drop> Busy<T> {
         }
     }
 
-    /// One that sleeps takes a token, and looks. It sleeps on if no token is there.
+    /// One that sleeps takes a token, and looks. It sleeps on if no token is there. If another pass changed the list first,
+    /// it stops waiting.
     pub(crate) fn wake_up(&mut self) -> Heard<T>
         requires asleep { self.old.debt ≡ owed.Asleep }
         ensures looked { OfHeard result (work_of self.old) self.new }
         ensures wakes { Tells 0 (wakes_by self.old) (wakes_by self.new) }
     {
-        if self.segment.accept(&mut self.pass) != Rest::Woken {
-            return Heard::Asleep;
+        match self.segment.accept(&mut self.pass) {
+            Rest::Sleep => Heard::Asleep,
+            // A token may be there, so whoever slept on could sleep forever.
+            Rest::Again => {
+                self.give_up();
+                Heard::Again
+            }
+            Rest::Woken => {
+                self.debt = Debt::Look;
+                self.look_woken()
+            }
         }
-        self.debt = Debt::Look;
-        self.look_woken()
     }
 
     /// Looks, for a token that it took.

@@ -108,7 +108,8 @@ impl<T: Drop> Asleep<T> {
         segment.park_by(rt, pass, deadline)
     }
 
-    /// Takes a token, if one is there, and looks. Else it sleeps on.
+    /// Takes a token, if one is there, and looks. Else it sleeps on. If another end was first at the list, a token may be
+    /// there. Then the answer is [`Polled::Owes`], and the receiver no longer waits.
     pub fn wake_up(self) -> Polled<T>
         ensures answer { OfPolled result (stand_with self.debtor)
             (λ a. Unit {0}) (λ r. ⊥) (λ r why. ⊥) }
