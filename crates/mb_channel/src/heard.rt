@@ -110,8 +110,8 @@ impl<T: Drop> Busy<T> {
         }
     }
 
-    /// One that sleeps takes a token, and looks. It sleeps on if no token is there. If another pass changed the list first,
-    /// it stops waiting.
+    /// One that sleeps takes a token, and looks. It sleeps on if no token is there. If another pass was first at the
+    /// list, it stops waiting.
     pub(crate) fn wake_up(&mut self) -> Heard<T>
         requires asleep { self.old.debt ≡ owed.Asleep }
         ensures looked { OfHeard result (work_of self.old) self.new }
