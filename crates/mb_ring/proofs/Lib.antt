@@ -19,3 +19,4 @@ pub mod ListMoves
 pub mod PassMoves
 pub mod Places
 pub mod Endings
+pub mod SendMoves

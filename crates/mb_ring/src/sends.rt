@@ -1,5 +1,5 @@
 //! The calls of senders that wait: a send that sleeps until there is room.
-ghost use Rattle.std.specs.Prelude.{IfErr, IfOk, None, [], true, ℕ, ◌%◌, ◌<◌, ◌∷◌, ◌≡◌, ◌≤◌, ◌⊎◌};
+ghost use Rattle.std.specs.Prelude.{IfErr, IfOk, None, [], true, ℕ, ◌%◌, ◌<◌, ◌∷◌, ◌≡◌, ◌≤◌, ◌⊎◌, ⊤};
 ghost use Rattle.mb_ring.specs.{Becomes, IsCalm, IsFree, IsStill, MaySend, Member, Nothing, OfNotSent, OfPlace, Room, SawFull, Values, Writes};
 ghost use Rattle.mb_ring.specs.{blinded, calm, did_cut, done, done_with_all, drew, ended, falls_asleep, found_full, has_closed, has_woken, held_by};
 ghost use Rattle.mb_ring.specs.{leaves, looked, owes_wake, sees_cut, sent_at, spot, value_of, view_in, with_duty};
@@ -42,6 +42,7 @@ impl<T: Drop, A: Allocator + Drop> Ring<T, A> {
         requires idle { ((view_in pass.old).half ≡ Nothing) × (held_by pass.old ≡ []) }
         ensures pass { IsStill pass.old pass.new }
         ensures found { found_full (view_in pass.old) ≤ found_full (view_in pass.new) }
+        ensures open { OfPlace result (λ _. ⊤) (MaySend (view_in pass.old)) ⊤ ⊤ }
         ensures answer { OfPlace result
             (λ at. (at < 4611686018427387904)
             × (held_by pass.new ≡ (at % self.now.size, None) ∷ [])

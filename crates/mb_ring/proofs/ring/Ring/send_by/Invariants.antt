@@ -1,5 +1,5 @@
 use Rattle.std.proofs.Common.{◌≡◌, ◌≤◌}
-use Rattle.mb_ring.specs.Vocabulary.{blinded, calm, found_full}
+use Rattle.mb_ring.specs.Vocabulary.{MaySend, blinded, calm, found_full}
 use Rattle.mb_ring.proofs.ring.Ring.send_by.Given as goal
 
 abbrev pub invariant-loop : goal.invariant-loop
@@ -8,3 +8,4 @@ invariant-loop g l =
     × (l.pass.seat.table_id ≡ l.initial.pass.seat.table_id) × (l.pass.seat.id ≡ l.initial.pass.seat.id)
     × (blinded l.pass.seat.me.0 ≡ calm l.initial.pass.seat.me.0) × (l.pass.seat.me.1 ≡ l.initial.pass.seat.me.1)
     × (found_full l.initial.pass.seat.me.0 ≤ found_full l.pass.seat.me.0)
+    × MaySend l.fn.pass.seat.me.0
