@@ -40,9 +40,9 @@ mod rest;
 mod rule;
 pub mod samples;
 mod sends;
-mod stuck;
 #[cfg(test)]
 mod sleep_tests;
+mod stuck;
 #[cfg(test)]
 mod tests;
 mod tried;

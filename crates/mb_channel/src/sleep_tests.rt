@@ -55,12 +55,7 @@ fn poll<R: Wait>(
 }
 
 /// Receives values up to this one, which is the last. Returns their sum.
-fn receive_to<R: Wait>(
-    rt: &R,
-    channel: &Channel<u64>,
-    receiver: Receiver<u64>,
-    last: u64,
-) -> u64
+fn receive_to<R: Wait>(rt: &R, channel: &Channel<u64>, receiver: Receiver<u64>, last: u64) -> u64
     requires channel { IsEndOf channel.now receiver.end }
 {
     let mut receiver = receiver;
@@ -79,12 +74,7 @@ fn receive_to<R: Wait>(
 }
 
 /// Sends a value, and wakes whoever has to be woken.
-fn send_one<R: Wait>(
-    rt: &R,
-    channel: &Channel<u64>,
-    sender: Sender<u64>,
-    value: u64,
-) -> Sender<u64>
+fn send_one<R: Wait>(rt: &R, channel: &Channel<u64>, sender: Sender<u64>, value: u64) -> Sender<u64>
     requires channel { IsEndOf channel.now sender.end }
     ensures channel { IsEndOf channel.now result.end }
 {
@@ -226,9 +216,7 @@ fn past_the_last<R: Wait>(rt: &R, channel: &Channel<u64>, receiver: Receiver<u64
 #[test]
 fn a_sender_that_is_behind_tries_again(rt: HostRuntime) -> Result<(), Fail> {
     let (channel, mut slow, receiver) = Channel::<u64>::new(rt.alloc())?;
-    let quick = channel
-        .another_sender(&rt, &mut slow)
-        .expect(&rt, "an end");
+    let quick = channel.another_sender(&rt, &mut slow).expect(&rt, "an end");
     let (again, slow) = behind(&rt, &channel, slow, quick);
     drop(send_one(&rt, &channel, slow, 1));
     drop(receiver);

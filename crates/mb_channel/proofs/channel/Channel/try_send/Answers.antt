@@ -15,10 +15,10 @@ BehindIn (step.Over e x) = IsBehind e
 pub loop-preserved : goal.loop-preserved
 loop-preserved g c = let i = c.loop.invariant in let o = c.in-Over.ensures in let e = c.go_on.ensures in (
   more_then (stand_of c.args.sender.end) (stand_of c.loop.end) (stand_of c.go_on.new.end) i.0
-  (more_then (stand_of c.loop.end) (stand_of c.in-Over.back) (stand_of c.go_on.new.end) o.answer.0
-  (record { one = e.end; sent = e.sent; got = e.got })),
+      (more_then (stand_of c.loop.end) (stand_of c.in-Over.back) (stand_of c.go_on.new.end) o.answer.0
+      (record { one = e.end; sent = e.sent; got = e.got })),
   o.answer.1 ∙ i.1,
   (let x = i.2 in let y = o.wakes in let z = e.wakes in omega arith),
   λ b. let j = (i.3 b).0 in
-  absurd (c.in_default.not-Err _ (e.still (subst BehindIn (sym (o.outside (c.loop.end.outside j.0))) j))),
+      absurd (c.in_default.not-Err _ (e.still (subst BehindIn (sym (o.outside (c.loop.end.outside j.0))) j))),
 )
