@@ -158,7 +158,7 @@ fn a_sleeper_gives_up_with_a_token(rt: HostRuntime) -> Result<(), Fail> {
     let (channel, sender, receiver) = Channel::<u64>::new(rt.alloc())?;
     let (wakes, times) = give_up_with_a_token(&rt, &channel, sender, receiver);
     assert!(rt; wakes == Sent::Wakes);
-    // It stops waiting, leaves with the token, and finds that nobody else sleeps.
-    assert!(rt; times == 3);
+    // It no longer waits. It leaves with the token, and finds that nobody else sleeps.
+    assert!(rt; times == 2);
     Ok(())
 }
