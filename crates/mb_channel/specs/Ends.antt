@@ -72,7 +72,7 @@ pub record IsLeft {T : Type 0} (old new : Knows T) : Type 0 where
   pub receives : new.receives ≡ old.receives
   pub told : (new.alone ≡ old.alone) × (new.shut ≡ old.shut) × (new.last ≡ old.last)
 
--- it was told that it is behind the last segment, for ever, and refuses each call as closed
+-- it was told that it is behind the last segment, for ever: each send and receive answers "closed"
 abbrev pub IsBehind : {T : Type 0} → End T → Type 0
 IsBehind e = (e.behind ≡ true) × KnowsEnd (view_of e)
 
