@@ -16,8 +16,8 @@ account_in i = i.pass.seat.me.0.account
 abbrev pub told_in : {T : Type 0} → Inside T → Bool
 told_in i = i.pass.seat.me.0.over
 
--- it looked, and found more than n times that none waits there. At that moment all was claimed that it had sent or seen
--- marked there
+-- it looked, and found more than n times that none waits there. When it did so last, all was claimed that it has sent
+-- there by now, and the position that it saw marked last
 abbrev pub SawNothing : {T : Type 0} → ℕ → View T → Type 0
 SawNothing n v = SawAllTaken v × (n < found_empty v)
 

@@ -41,7 +41,8 @@ IsLast v = (v.holds ≡ true) × (length v.before ≡ v.at)
 abbrev pub found_none : {T : Type 0} → Knows T → Knows T
 found_none v = record v { found = if v.takes then suc v.found else v.found }
 
--- a load of the number of senders by an end behind the last segment, which counts that if one is left; and of the mark
+-- a load of the number of senders, by an end that has the lock and is behind the last segment. It counts that if a
+-- sender is left. And a load of the mark
 abbrev pub sees_senders : {T : Type 0} → Step (Homes T) → Sat T → ℕ → Sat T → Type 0
 sees_senders st m r n = (n.1 ≡ m.1) × IsLast m.0 × (r ≡ 0 → (n.0 ≡ saw_none m.0) × (m.0.sends ≡ 0))
     × (r ≢ 0 → n.0 ≡ found_none m.0)

@@ -26,7 +26,7 @@ work_of b = record { segment = b.segment; pass = b.pass.seat.me.0 }
 abbrev pub IsThere : {T : Type 0} → Work T → Work T → Type 0
 IsThere v w = (w.segment ≡ v.segment) × (found_empty v.pass ≤ found_empty w.pass)
 
--- nothing was sent or received there, and it was told nothing new
+-- nothing was sent or received there, and it was not told now that no value can come
 pub record IsStill {T : Type 0} (v w : Work T) : Type 0 where
   pub there : IsThere v w
   pub account : w.pass.account ≡ v.pass.account
@@ -59,7 +59,8 @@ Sleeps b = b.debt ≡ owed.Asleep
 abbrev pub IsAwake : {T : Type 0} → Busy T → Type 0
 IsAwake b = b.debt ≢ owed.Asleep
 
--- a value was received, it sleeps, nothing is known, or no value can come any more
+-- a value was received, it sleeps, nothing is known, or no value can come any more. It sleeps only in the
+-- second case
 abbrev pub OfHeard : {T : Type 0} → Heard T → Work T → Busy T → Type 0
 OfHeard (heard.Value x) v b = HasGot x v (work_of b) × IsAwake b
 OfHeard heard.Asleep v b = IsStill v (work_of b) × Sleeps b

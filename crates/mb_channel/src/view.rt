@@ -48,6 +48,7 @@ pub struct Knows<T: Drop> {
     pub shut: bool,
     /// It was told that there are so many segments, and never more.
     pub last: Option<u64>,
-    /// How often it looked as one that may receive, and found itself behind the last segment. Nothing waited then.
+    /// How often it looked as one that may receive and has the lock, and found itself behind the last segment while a
+    /// sender was left. Nothing waited then.
     pub found: u64,
 }
