@@ -31,7 +31,7 @@ def parts(text, mark=","):
 
 def in_c(declared):
     """The type of a parameter or field, as `const uint8_t seed[32]`, which is a pointer, or `hz_handle *hub`."""
-    const, name, star, many = re.fullmatch(r"(const )?(\w+) (\*?)\w+(\[\d+\])?", declared).groups()
+    const, name, star, many = re.fullmatch(r"(const )?(?:struct )?(\w+) (\*?)\w+(\[\d+\])?", declared).groups()
     return ("const " if const else "mut ") * bool(star or many) + plain(name) + (many or "")
 
 
@@ -87,8 +87,13 @@ def main():
     header = of_header(read("bindings/c/hazbultra.h"))
     told = [*told_of(header, "the Rust crate", read("bindings/rust/src/ffi/*.rs"))]
     told += told_of(header, "the proved crate", read("crates/hazbultra/src/**/*.rt"))
-    print("\n".join([*told, f"{len(header[0])} calls, {len(told)} differences"]))
-    return bool(told) or not header[0]
+    # (the other calls of this header are those of channel.c, which includes it, and so are its senders and receivers)
+    calls, structs, _ = of_header(read("bindings/c/hazbultra_channel.h"))
+    calls = {name: it for name, it in calls.items() if name.startswith("hz_channel_")}
+    channel = calls, {name: structs[name] for name in ("end", "wake")}, header[2]
+    told += told_of(channel, "the proved crate of the channel", read("crates/hazbultra_channel/src/**/*.rt"))
+    print("\n".join([*told, f"{len(header[0]) + len(channel[0])} calls, {len(told)} differences"]))
+    return bool(told) or not header[0] or not channel[0]
 
 
 if __name__ == "__main__":

@@ -1,7 +1,7 @@
 """The kit's own library, for what the command rt cannot do: it knows rattle's command line, and where libraries stand.
 
     ci/kit.py --jobs       prints what RT_JOBS is to be for `rt ci`, or nothing if rt has to guess
-    ci/kit.py --archive [FLAGS..]    builds the archive over the libraries that `rt ci` left, and proves none of them once more
+    ci/kit.py --archive CRATE [FLAGS..]    builds an archive over the libraries that `rt ci` left, and proves none once more
 """
 import importlib
 import os
@@ -46,7 +46,7 @@ def archive(kit, crate, flags):
 if __name__ == "__main__":
     kit, crates = load()
     if "--archive" in sys.argv:
-        sys.exit(archive(kit, crates["hazbultra"], sys.argv[2:]))
+        sys.exit(archive(kit, crates[sys.argv[2]], sys.argv[3:]))
     most = lanes(kit, MEMORY)
     # With RT_JOBS rt starts so many checks, whatever memory it expects them to take. With two processors RT_JOBS is not needed.
     print(most if most > 2 and most == len(os.sched_getaffinity(0)) else "")

@@ -1,5 +1,5 @@
 #!/bin/sh
-# Checks or renews the built files that the repository has: the program prebuilt/mailbox, and libhazbultra.a for two targets.
+# Checks or renews the built files that the repository has: the program prebuilt/mailbox, and two archives for two targets each.
 #
 #   ci/prebuilt.sh             checks, without the kit, that each has the hashes of itself and its sources in its text
 #   ci/prebuilt.sh --compare   builds all anew, and compares them with these byte by byte
@@ -34,7 +34,7 @@ look() {
     shift 5
     case $mode$proved in
     --place | --compare) (cd "$folder" && "$@") ;;
-    *--proved) [ "$1" != rt ] || (shift 2 && python3 ci/kit.py --archive "$@") ;;
+    *--proved) [ "$1" != rt ] || (shift 2 && python3 ci/kit.py --archive "$crate" "$@") ;;
     esac
     if [ "$mode" = --place ]; then
         cp "$built" "$file"
@@ -61,8 +61,10 @@ if [ "$proved" = --proved ] && { [ ! -f $left ] || [ -n "$(newer)" ]; }; then
 fi
 look prebuilt/mailbox prebuilt/mailbox.txt mailbox_main $left . ./mailbox --build
 for target in aarch64-unknown-linux-gnu x86_64-unknown-linux-gnu; do
-    archive=bindings/rust/prebuilt/$target/libhazbultra
-    look $archive.a $archive.txt hazbultra crates/hazbultra/out/libhazbultra.a crates/hazbultra rt lib --target $target
+    for it in rust/hazbultra c/hazbultra_channel; do
+        crate=${it#*/} archive=bindings/${it%/*}/prebuilt/$target/lib${it#*/}
+        look $archive.a $archive.txt $crate crates/$crate/out/lib$crate.a crates/$crate rt lib --target $target
+    done
 done
-echo "3 files, $faults faults"
+echo "5 files, $faults faults"
 [ "$faults" = 0 ]

@@ -11,7 +11,7 @@ PROGRAM = '#!/bin/sh\n[ "$1" = --version ] || { echo "SHIPPED $*"; cat; }\n'
 # It says what it was asked, and `rt run` leaves a program that says what it is asked.
 RT = """#!/bin/sh
 [ "$1" != version ] || exec echo the kit
-[ "$1" != lib ] || { shift && mkdir -p out && echo ARCHIVE "$@" >out/libhazbultra.a; exit; }
+[ "$1" != lib ] || { shift && mkdir -p out && echo ARCHIVE "$@" >"out/lib${PWD##*/}.a"; exit; }
 [ "$1" = run ] || { echo "rt $*"; cat; exit 2; }
 echo 'so far: 2 of 9 functions checked; the verdict comes last'
 [ -z "${BROKEN-}" ] || exit 1
@@ -20,13 +20,16 @@ mkdir -p out
 printf '#!/bin/sh\\necho "own $*"\\ncat\\n' >out/mailbox_main
 chmod +x out/mailbox_main
 """
-ARCHIVES = {f"{it}-unknown-linux-gnu": f"bindings/rust/prebuilt/{it}-unknown-linux-gnu/libhazbultra.a" for it in ("x86_64", "aarch64")}
+TARGETS = ("x86_64-unknown-linux-gnu", "aarch64-unknown-linux-gnu")
+PLACES = {"hazbultra": "bindings/rust/prebuilt", "hazbultra_channel": "bindings/c/prebuilt"}
+ARCHIVES = {f"{top}/{it}/lib{crate}.a": (crate, it) for crate, top in PLACES.items() for it in TARGETS}
 FILES = {
-    "crates.txt": "# Each crate.\nlow:\nmailbox_main: low clap\nhazbultra staticlib: low\n",
+    "crates.txt": "# Each crate.\nlow:\nmailbox_main: low clap\nhazbultra staticlib: low\nhazbultra_channel staticlib: low\n",
     "crates/mailbox_main/src/main.rt": "",
     "crates/low/src/lib.rt": "",
     "crates/hazbultra/src/lib.rt": "",
-    **{archive: f"ARCHIVE --target {target}\n" for target, archive in ARCHIVES.items()},
+    "crates/hazbultra_channel/src/lib.rt": "",
+    **{archive: f"ARCHIVE --target {target}\n" for archive, (_, target) in ARCHIVES.items()},
     "prebuilt/mailbox": PROGRAM,
     "bin/rt": RT,
 }
@@ -44,8 +47,8 @@ class Place(Room):
         for path in ("mailbox", "ci/sources.sh", "ci/prebuilt.sh"):
             shutil.copy(f"{TOP}/{path}", f"{self.top}/{path}")
         self.record()
-        for target, archive in ARCHIVES.items():
-            self.record(archive, "hazbultra", **({"needs": "aarch64 Linux"} if target.startswith("aarch64") else {}))
+        for archive, (crate, target) in ARCHIVES.items():
+            self.record(archive, crate, **({"needs": "aarch64 Linux"} if target.startswith("aarch64") else {}))
 
     def sources(self, crate="mailbox_main"):
         return subprocess.check_output(["sh", f"{self.top}/ci/sources.sh", crate], text=True).strip()
@@ -130,17 +133,17 @@ class Prebuilt(Place):
         env = {**os.environ, "PATH": f"{self.top}/bin:{os.environ['PATH']}"}
         how = {"stdout": subprocess.PIPE, "stderr": subprocess.STDOUT, "text": True, "env": env}
         ran = subprocess.run(["sh", f"{self.top}/ci/prebuilt.sh", *words], check=False, **how)
-        self.assertEqual((ran.returncode == 0), ran.stdout.endswith("3 files, 0 faults\n"))
+        self.assertEqual((ran.returncode == 0), ran.stdout.endswith("5 files, 0 faults\n"))
         return ran.stdout
 
     def test_what_a_text_says_has_to_hold(self):
-        self.assertEqual(self.told(), "3 files, 0 faults\n")
+        self.assertEqual(self.told(), "5 files, 0 faults\n")
         for name in ("commit", "kit", "sha256", "sources", "needs"):
             self.record(**{name: ""})
-            self.assertIn("3 files, 1 faults", self.told(), name)
+            self.assertIn("5 files, 1 faults", self.told(), name)
         self.write("prebuilt/mailbox", "GLIBC_2.4 GLIBC_2.34 GLIBC_2.14")
         self.record(needs="x86_64 Linux, glibc 2.34, x86-64-v2")
-        self.assertEqual(self.told(), "3 files, 0 faults\n")
+        self.assertEqual(self.told(), "5 files, 0 faults\n")
         os.remove(f"{self.top}/prebuilt/mailbox.txt")
         self.assertIn("there is no prebuilt/mailbox or no prebuilt/mailbox.txt", self.told())
 
@@ -149,12 +152,12 @@ class Prebuilt(Place):
         for words in ("init -q", "add crates crates.txt", "-c user.name=a -c user.email=a commit -qm a"):
             subprocess.run(["git", *words.split()], cwd=self.top, check=True)
         self.write(".gitignore", "out/\n")
-        self.assertIn("3 files, 0 faults", self.told("--place"))
-        self.assertIn("3 files, 0 faults", self.told("--compare"))
+        self.assertIn("5 files, 0 faults", self.told("--place"))
+        self.assertIn("5 files, 0 faults", self.told("--compare"))
         self.assertEqual(self.run_it("replay", kit=False), (0, "own replay\nx\n", ""))
-        for archive in ARCHIVES.values():
+        for archive in ARCHIVES:
             self.write(archive, "ARchive\n")
-        self.assertIn("3 files, 4 faults", self.told("--compare"))
+        self.assertIn("5 files, 8 faults", self.told("--compare"))
         os.utime(f"{self.top}/crates/mailbox_main/out/mailbox_main", (1, 1))
         self.assertIn("run rt ci first", self.told("--place", "--proved"))
         self.write(SOURCE, "//")

@@ -26,7 +26,7 @@ STEPS = [
     (RECEIVER, "claimed", None, "looks"),
     (RECEIVER, "state 0", None, "it is marked"),
     (RECEIVER, "claimed", "1", "claims position 0"),
-    (RECEIVER, "state 0", "2", "reads the value"),
+    (RECEIVER, "list", None, "reads the value"),
 ]
 # Spans of time, in rows that count from 1: the first, the last, and the style.
 BOXES = [(RECEIVER, 4, 7, "f lost"), (RECEIVER, 8, 12, "f undecided"), (SENDER, 9, 12, "f lost"), (RECEIVER, 13, 16, "f lost")]
@@ -36,9 +36,9 @@ FORMS += [("quiet", "", "finds nothing"), ("f undecided", "", "asleep"), ("f los
 LEGEND = FORMS, """drawn = 0 := 1: a compare-exchange found 0, stored 1.
 drawn, claimed: how many positions are drawn, and claimed.
 list: how many wait without a token, and tokens not taken.
-state 0: of position 0: 0, 1 if it is marked, 2 if it is read.
+state 0: of position 0: 0, and 1 once it is marked.
 The sender fills the slot just before it marks the position.
-The receiver empties it just before it stores the 2.
+The receiver empties it just before its last load.
 Peeks at the list tell nothing, and are not shown.
 Whoever has given a token then wakes a thread."""
 

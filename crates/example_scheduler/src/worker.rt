@@ -1,12 +1,10 @@
 //! A worker, and the jobs that its jobs put.
 ghost use Rattle.std.specs.Prelude.{◌≡◌, ◌+◌, ◌<◌, IfOk, IfSome};
-ghost use Rattle.mb_channel.specs.Ends.{IsEndOf};
-ghost use Rattle.example_scheduler.specs.Crew.{IsOf};
 
 use crate::board::Board;
 use crate::options::Options;
 use anyhow::{Result, bail};
-use mb_channel::{Channel, Receiver, Sender};
+use mb_channel::{Receiver, Sender};
 use std::alloc::AllocError;
 use std::sync::Wait;
 use std::time::{Clock, Duration, Instant};
@@ -45,16 +43,8 @@ pub struct Worker {
 }
 
 /// Sends a task. The error is that memory was refused: the channel is never closed, and few ends are in a segment.
-pub fn send<R: Wait>(
-    rt: &R,
-    channel: &Channel<Task>,
-    sender: &mut Sender<Task>,
-    task: Task,
-) -> Result<(), AllocError>
-    requires channel { IsEndOf channel.now sender.old.end }
-    ensures channel { IsEndOf channel.now sender.new.end }
-{
-    match channel.send(rt, sender, task) {
+pub fn send<R: Wait>(rt: &R, sender: &mut Sender<Task>, task: Task) -> Result<(), AllocError> {
+    match sender.send(rt, task) {
         Ok(()) => Ok(()),
         Err(_) => Err(AllocError),
     }
@@ -62,36 +52,22 @@ pub fn send<R: Wait>(
 
 impl Worker {
     /// Another worker of the channel.
-    pub fn another<R: Wait>(
-        &mut self,
-        rt: &R,
-        channel: &Channel<Task>,
-    ) -> Result<Worker, AllocError>
-        requires belongs { IsOf channel.now self.old }
-        ensures belongs { IsOf channel.now self.new }
-        ensures other { IfOk result (λ other. IsOf channel.now other) }
-    {
-        let sender = channel
-            .another_sender(rt, &mut self.sender)
-            .ok_or(AllocError)?;
-        let receiver = channel
-            .another_receiver(rt, &mut self.receiver)
-            .ok_or(AllocError)?;
-        Ok(Worker { sender, receiver })
+    pub fn another(&mut self) -> Result<Worker, AllocError> {
+        Ok(Worker {
+            sender: self.sender.another().ok_or(AllocError)?,
+            receiver: self.receiver.another().ok_or(AllocError)?,
+        })
     }
 
     /// Works until it is told to stop. If it fails, each other worker stops too, when it next finds no task.
     pub fn work<R: Eprint + Clock + Wait>(
         self,
         rt: &R,
-        channel: &Channel<Task>,
         board: &Board,
         options: &Options,
-    ) -> Result<()>
-        requires belongs { IsOf channel.now self }
-    {
+    ) -> Result<()> {
         let mut worker = self;
-        let end = worker.run_jobs(rt, channel, board, options);
+        let end = worker.run_jobs(rt, board, options);
         if end.is_err() {
             board.give_up();
         }
@@ -102,12 +78,9 @@ impl Worker {
     fn run_jobs<R: Eprint + Clock + Wait>(
         &mut self,
         rt: &R,
-        channel: &Channel<Task>,
         board: &Board,
         options: &Options,
-    ) -> Result<()>
-        requires belongs { IsOf channel.now self.old }
-    {
+    ) -> Result<()> {
         for _ in rt.forever() {
             if board.was_given_up() {
                 break;
@@ -116,8 +89,8 @@ impl Worker {
             let soon = now
                 .checked_add(Duration::from_millis(PATIENCE))
                 .unwrap_or(now);
-            match channel.receive_by(rt, &mut self.receiver, soon) {
-                Ok(Some(Task::Run(job))) => self.run(rt, channel, board, options, job)?,
+            match self.receiver.receive_by(rt, soon) {
+                Ok(Some(Task::Run(job))) => self.run(rt, board, options, job)?,
                 Ok(Some(Task::Stop)) => break,
                 Ok(None) => {}
                 // The channel is never closed, and few ends are in a segment.
@@ -131,14 +104,10 @@ impl Worker {
     fn run<R: Eprint + Wait>(
         &mut self,
         rt: &R,
-        channel: &Channel<Task>,
         board: &Board,
         options: &Options,
         job: u64,
-    ) -> Result<(), AllocError>
-        requires belongs { IsOf channel.now self.old }
-        ensures belongs { IsOf channel.now self.new }
-    {
+    ) -> Result<(), AllocError> {
         let Some(many) = board.run(job) else {
             return Ok(());
         };
@@ -147,11 +116,11 @@ impl Worker {
             let _ = eprintln!(rt; "{many} jobs were run");
         }
         if let Some(next) = further(job, options.jobs) {
-            send(rt, channel, &mut self.sender, Task::Run(next))?;
+            send(rt, &mut self.sender, Task::Run(next))?;
         }
         if many == options.jobs {
             for _ in 0..options.workers {
-                send(rt, channel, &mut self.sender, Task::Stop)?;
+                send(rt, &mut self.sender, Task::Stop)?;
             }
         }
         Ok(())

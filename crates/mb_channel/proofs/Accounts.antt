@@ -27,7 +27,7 @@ module _ {T : Type 0} where
   abbrev pub history_of : seg.History T → History T
   history_of h = record { claims = map claim h.claims; rest = map entry h.rest }
 
-  by_same : (n p : ℕ) (es : List (seg.Entry T)) → map pos (seg.spots_by n p es) ≡ spots_by n p (map entry es)
+  pub by_same : (n p : ℕ) (es : List (seg.Entry T)) → map pos (seg.spots_by n p es) ≡ spots_by n p (map entry es)
   by_same n p [] = refl
   by_same n p (e ∷ es) = go (nat_eq e.by n) (by_same n (suc p) es)
     where
@@ -37,7 +37,7 @@ module _ {T : Type 0} where
       go true rec = ap (λ l. record { at = p; value = e.value } ∷ l) rec
       go false rec = rec
 
-  to_same : (n p : ℕ) (cs : List (seg.Claim T)) → map pos (seg.spots_to n p cs) ≡ spots_to n p (map claim cs)
+  pub to_same : (n p : ℕ) (cs : List (seg.Claim T)) → map pos (seg.spots_to n p cs) ≡ spots_to n p (map claim cs)
   to_same n p [] = refl
   to_same n p (c ∷ cs) = go (nat_eq c.to n) (to_same n (suc p) cs)
     where

@@ -7,11 +7,11 @@ use lib.ListN.{get_elem?}
 use Rattle.atomic_table.specs.Table.{Splits, Joins}
 use Rattle.atomic_table.proofs.Lists.{at_set, set_else, set_here, at_longer}
 use Rattle.mb_channel.specs.Types.{Home, Knows, Past}
-use Rattle.mb_channel.specs.Homes.{AllPast, Fits, IsSpent, Keeps, Made, PastFits, FitsEnd}
+use Rattle.mb_channel.specs.Homes.{AllPast, Fits, IsSpent, Keeps, Made, NobodyTold, PastFits, FitsEnd}
 use Rattle.mb_channel.specs.Homes.{both, count, how_many, is_in, made_by, newborn_view, past_of}
 use Rattle.mb_channel.specs.Homes.{receives, rights, sends, spent_view, splits_off, tallies, told_or, total}
 use Rattle.mb_channel.proofs.Members.{lock_views}
-use Rattle.mb_channel.proofs.Moves.{ended_stay, grows_same, has_part, not_back, not_spent, told_same}
+use Rattle.mb_channel.proofs.Moves.{ended_stay, grows_same, has_part, nobody_else, nobody_set, not_back, not_spent, told_same}
 use Rattle.mb_channel.proofs.Views.{all_zero, how_many_append, in_none, once_more, past_append, past_count_append, past_map, size_set, size_snoc, snoc_cases, there, total_set, total_snoc}
 
 one_is : (a b : Bool) → a || b ≡ true → (a ≡ true) ⊎ (b ≡ true)
@@ -23,9 +23,10 @@ told_is None b n e = inr e
 told_is (Some m) b n e = inl e
 
 module _ {T : Type 0} where
-  pub knows_nothing : (hs : List (Home T)) (mark : ℕ) (views : List (Knows T)) (u : Knows T) → u.may_add ≡ false
-      → u.alone ≡ false → u.shut ≡ false → u.last ≡ None → u.at ≡ 0 → FitsEnd hs mark views u
-  knows_nothing hs mark views u a b c d here = record {
+  pub knows_nothing : (hs : List (Home T)) (mark : ℕ) (views : List (Knows T)) (u : Knows T) → u.is_open ≡ false
+      → u.may_add ≡ false → u.alone ≡ false → u.shut ≡ false → u.last ≡ None → u.at ≡ 0 → FitsEnd hs mark views u
+  knows_nothing hs mark views u o a b c d here = record {
+    is_open = λ q. absurd (true≢false (sym q ∙ o));
     may_add = λ q. absurd (true≢false (sym q ∙ a));
     alone = λ q. absurd (true≢false (sym q ∙ b));
     shut = λ q. absurd (true≢false (sym q ∙ c));
@@ -90,9 +91,13 @@ module _ {T : Type 0} where
       let receives' : total receives s.views ≡ total receives (one ++ new ∷ []) = omega arith in
       let words : tallies s.views k.mark ≡ tallies (one ++ new ∷ []) k.mark =
       (λ i. rights' i ∷ sends' i ∷ receives' i ∷ k.mark ∷ []) in
+      let nobody : NobodyTold s.views → NobodyTold (one ++ new ∷ []) = λ n j u e. ⊎_elim
+      (λ there_. nobody_set s.views id v w at refl n j u there_)
+      (λ (t : (j ≡ length one) × (new ≡ u)). ap (λ (z : Knows T). z.last) (sym t.1) ∙ n id v at)
+      (snoc_cases one new u j e) in
       let tells : (u : Knows T) → FitsEnd k.homes k.mark s.views u → FitsEnd k.homes k.mark (one ++ new ∷ []) u =
       λ u t. told_same k.homes k.homes k.mark s.views (one ++ new ∷ []) u (grows_same k.homes) refl
-      (λ q. sym sends' ∙ q) t in
+      (λ q. sym sends' ∙ q) (λ _. nobody) t in
       record {
         homes = k.homes;
         all = k.all;
@@ -117,6 +122,7 @@ module _ {T : Type 0} where
             (λ there_. ⊎_elim
             (λ (t : (j ≡ id) × (w ≡ u)). subst (λ (z : Knows T). FitsEnd k.homes k.mark (one ++ new ∷ []) z) t.1
             (let x = tells v (k.told id v at) in record {
+              is_open = x.is_open;
               may_add = x.may_add;
               alone = x.alone;
               shut = x.shut;
@@ -127,6 +133,7 @@ module _ {T : Type 0} where
             (at_set s.views id j w u there_))
             (λ (t : (j ≡ length one) × (new ≡ u)). subst (λ (z : Knows T). FitsEnd k.homes k.mark (one ++ new ∷ []) z)
             t.1 (let x = tells v (k.told id v at) in record {
+              is_open = λ q. absurd (true≢false (sym q));
               may_add = λ q. absurd (true≢false (sym q));
               alone = x.alone;
               shut = x.shut;
@@ -203,8 +210,11 @@ module _ {T : Type 0} where
       let receives' : total receives s.views ≡ total receives two = omega arith in
       let words : tallies s.views k.mark ≡ tallies two k.mark =
       (λ i. rights' i ∷ sends' i ∷ receives' i ∷ k.mark ∷ []) in
+      let nobody : NobodyTold s.views → NobodyTold two = λ n. nobody_else one other spent_view refl
+      (nobody_else s.views id (both v w) (ap (λ o. told_or o w.last) (n id v at) ∙ n other w was) n) in
       let tells : (u : Knows T) → FitsEnd k.homes k.mark s.views u → FitsEnd k.homes k.mark two u =
-      λ u t. told_same k.homes k.homes k.mark s.views two u (grows_same k.homes) refl (λ q. sym sends' ∙ q) t in
+      λ u t. told_same k.homes k.homes k.mark s.views two u (grows_same k.homes) refl (λ q. sym sends' ∙ q)
+      (λ _. nobody) t in
       record {
         homes = k.homes;
         all = k.all;
@@ -229,10 +239,11 @@ module _ {T : Type 0} where
         agrees = k.agrees;
         told = λ j u e. ⊎_elim
             (λ (t : (j ≡ other) × (spent_view ≡ u)). subst (λ (z : Knows T). FitsEnd k.homes k.mark two z) t.1
-            (knows_nothing k.homes k.mark two spent_view refl refl refl refl refl))
+            (knows_nothing k.homes k.mark two spent_view refl refl refl refl refl refl))
             (λ (t : (j ≢ other) × (get_elem? one j ≡ some u)). ⊎_elim
             (λ (q : (j ≡ id) × (both v w ≡ u)). subst (λ (z : Knows T). FitsEnd k.homes k.mark two z) q.1
             (let x = tells v (k.told id v at) in let y = tells w (k.told other w was) in record {
+              is_open = x.is_open;
               may_add = x.may_add;
               alone = λ is. ⊎_elim x.alone y.alone (one_is v.alone w.alone is);
               shut = λ is. ⊎_elim x.shut y.shut (one_is v.shut w.shut is);

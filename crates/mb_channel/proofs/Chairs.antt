@@ -1,7 +1,7 @@
 -- What the calls on the list's lock stand on.
 use Rattle.std.proofs.Common.{ℕ, Bool, true, false, true≢false, List, [], length, sym, refl, ap, subst, inl, inr, ⊎_elim, arith}
 use Rattle.std.proofs.Common.{◌≡◌, ◌+◌, ◌<◌, ◌≤◌, ◌⊎◌, ◌∷◌, ◌++◌, ◌||◌, ◌∙◌}
-use Rattle.std.specs.Prelude.{IfSome, None, Option, Some, get_or, slice_set}
+use Rattle.std.specs.Prelude.{IfSome, None, Option, Some, get_or, is_some, slice_set}
 use Rattle.mb_segment.specs.Seats.{view_in as pass_view}
 use Rattle.mb_segment.specs.Vocabulary.{IsFree as IsCalmPass, blank, hub_view, is_over, or, took_back}
 use mathlib.Core.Option.{some, some-injective}
@@ -10,10 +10,10 @@ use Rattle.mb_channel.specs.Types.{Arc, Global, Home, Homes, Knows, Pass, Segmen
 use Rattle.atomic_table.specs.Table.{State, rest}
 use Rattle.atomic_table.proofs.Lists.{at_longer}
 use Rattle.mb_channel.specs.Homes.{Agrees, AreLed, AreOver, At, Changes, Grows, HasIssued, HasTakenBack, IsBusy, IsDone, IsIn, IsNew, IsNext, IsOver}
-use Rattle.mb_channel.specs.Homes.{IsPassOf, IsShut, Keeps, Longer, Made, MayGive, MayLeave, Sat, Stands, came_back, came_to, is_in, left_segment, out_of, sends, total, unlocked}
-use Rattle.mb_channel.proofs.Moves.{AllFitEnd, busy_same, ended_stay, grows_same, in_grows, near_grows, next_grows, over_grows, still_told, unlocks}
+use Rattle.mb_channel.specs.Homes.{IsPassOf, Keeps, Longer, Made, MayGive, MayLeave, Sat, Stands, came_back, came_to, is_in, left_segment, out_of, sends, total, unlocked}
+use Rattle.mb_channel.proofs.Moves.{AllFitEnd, busy_same, ended_stay, grows_same, in_grows, near_grows, next_grows, nobody_set, over_grows, still_told, unlocks}
 use Rattle.mb_channel.proofs.Stays.{unlocks_came, unlocks_left}
-use Rattle.mb_channel.proofs.Views.{all_zero, below_total, in_else, in_none, made_map, size_snoc, snoc_cases, there, total_set}
+use Rattle.mb_channel.proofs.Views.{all_zero, in_else, in_none, made_map, size_snoc, snoc_cases, there, total_set}
 
 some_is : {A : Type 0} (a b : A) → Some a ≡ Some b → a ≡ b
 some_is {A = A} a b e = ap (λ (o : Option A). Rattle.std.specs.Option.unwrap_or o a) e
@@ -55,17 +55,21 @@ module _ {T : Type 0} where
         (grows_snoc hs h) m.visit.segment r)) x) a.turn;
   }
 
-  pub grows_longer : (n : ℕ) (hs gs : List (Home T)) → Longer n hs gs → Grows hs gs
+  -- the list as it was, or longer
+  abbrev IsKept : ℕ → List (Home T) → List (Home T) → Type 0
+  IsKept n hs gs = (gs ≡ hs) ⊎ Longer n hs gs
+
+  grows_longer : (n : ℕ) (hs gs : List (Home T)) → IsKept n hs gs → Grows hs gs
   grows_longer n hs gs l = ⊎_elim (λ e. subst (λ x. Grows hs x) (sym e) (grows_same hs))
       (λ m. subst (λ x. Grows hs x) (sym m.2) (grows_snoc hs m.0)) l
 
-  pub agrees_longer : (n : ℕ) (hs gs : List (Home T)) → Longer n hs gs → (all : List (Made T))
+  agrees_longer : (n : ℕ) (hs gs : List (Home T)) → IsKept n hs gs → (all : List (Made T))
       → Agrees hs all → Agrees gs all
   agrees_longer n hs gs l all a = ⊎_elim (λ e. subst (λ x. Agrees x all) (sym e) a)
       (λ m. subst (λ x. Agrees x all) (sym m.2) (agrees_snoc hs m.0 all m.1 a)) l
 
   -- all before the new segment are over
-  led_longer : (n : ℕ) (hs gs : List (Home T)) → Longer n hs gs → AreOver hs n → AreLed hs → AreLed gs
+  led_longer : (n : ℕ) (hs gs : List (Home T)) → IsKept n hs gs → AreOver hs n → AreLed hs → AreLed gs
   led_longer n hs gs l over led = ⊎_elim (λ e. subst (λ x. AreLed x) (sym e) led)
       (λ m. subst (λ x. AreLed x) (sym m.2) (λ j lt. (
       let more = size_snoc hs m.0 in
@@ -83,7 +87,7 @@ module _ {T : Type 0} where
       go j u at false is = in_none u m is
 
   busy_longer : (s : State (Homes T) (Knows T)) (k : Keeps s) (n : ℕ) (gs : List (Home T))
-      → Longer n k.homes gs → (p m : ℕ)
+      → IsKept n k.homes gs → (p m : ℕ)
       (h : Home T) → get_elem? gs m ≡ some h → out_of h + p ≡ total (is_in m) s.views + p
   busy_longer s k n gs l p m h e = ⊎_elim
       (λ q. busy_same s k m p h (ap (λ x. get_elem? x m) (sym q) ∙ e))
@@ -94,34 +98,33 @@ module _ {T : Type 0} where
       ))
       (snoc_cases k.homes q.0 h m (ap (λ x. get_elem? x m) (sym q.2) ∙ e))) l
 
-  -- whoever adds a segment was never told that there will be no more, and nobody was
+  -- whoever adds a segment knows that nobody was told that there will be no more
   grown_told : (s : State (Homes T) (Knows T)) (k : Keeps s) (id : ℕ) (v : Knows T) (hs : List (Home T))
       → get_elem? s.views id ≡ some v → v.before ≡ k.homes → MayLeave v hs → Grows k.homes hs
       → AllFitEnd s k id (unlocked v) hs k.mark
   grown_told s k id v hs at before may grows = ⊎_elim
       (λ e. still_told s k id v (unlocked v) hs at grows (ap length (e ∙ before)) refl
-      (λ q. absurd (true≢false (sym q))) refl refl refl
+      (λ q. absurd (true≢false (sym q))) (λ q. absurd (true≢false (sym q))) refl refl refl
       (λ q. over_grows k.homes hs grows v.at ((k.told id v at).over q)))
       (λ more.
       let b = total_set sends s.views id v (unlocked v) at in
-      let low = below_total sends s.views id v at in
-      let some_ = more.0 in
       let e : total sends (slice_set s.views id (unlocked v)) ≡ total sends s.views = omega arith in
-      let marked = ((k.told id v at).may_add more.1).1 in
-      let no_end : IsShut k.mark s.views → ⊥ = ⊎_elim (λ z. omega arith) (λ z. omega arith) in (
+      let nobody = ((k.told id v at).may_add more.0).1 in (
         (λ j u ne at'. let t = k.told j u at' in record {
-          may_add = t.may_add;
+          is_open = t.is_open;
+          may_add = λ q. ((t.may_add q).0, nobody_set s.views id v (unlocked v) at refl nobody);
           alone = λ q. e ∙ t.alone q;
           shut = t.shut;
           over = λ q. over_grows k.homes hs grows u.at (t.over q);
-          last = λ n q. absurd (no_end (t.last n q).1);
+          last = λ n q. absurd (true≢false (ap is_some (sym q ∙ nobody j u at')));
         }),
         (let t = k.told id v at in record {
+          is_open = λ q. absurd (true≢false (sym q));
           may_add = λ q. absurd (true≢false (sym q));
           alone = λ q. e ∙ t.alone q;
           shut = t.shut;
           over = λ q. over_grows k.homes hs grows v.at (t.over q);
-          last = λ n q. absurd (no_end (t.last n q).1);
+          last = λ n q. absurd (true≢false (ap is_some (sym q ∙ nobody id v at)));
         }),
       ))
       may
@@ -133,12 +136,12 @@ module _ {T : Type 0} where
       (λ v. v) slots id me y hs stands carried live holds refl refl refl refl refl refl
       (λ s k at part before.
       let f = k.fits id me.0 at in
-      let l : Longer me.0.at k.homes hs = subst (λ x. Longer me.0.at x hs) before
-      (⊎_elim (λ e. inl e) (λ m. m.3) may) in
+      let l : IsKept me.0.at k.homes hs = subst (λ x. IsKept me.0.at x hs) before
+      (⊎_elim (λ e. inl e) (λ m. inr m.2) may) in
       let g = grows_longer me.0.at k.homes hs l in
       let led : AreLed hs = ⊎_elim (λ e. subst (λ x. AreLed x) (sym (e ∙ before)) k.leads)
-      (λ m. led_longer me.0.at k.homes hs (subst (λ x. Longer me.0.at x hs) before m.3)
-      ((k.told id me.0 at).over m.2) k.leads) may in (
+      (λ m. led_longer me.0.at k.homes hs (inr (subst (λ x. Longer me.0.at x hs) before m.2))
+      ((k.told id me.0 at).over m.1) k.leads) may in (
         k.all,
         g,
         led,

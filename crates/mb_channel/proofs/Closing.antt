@@ -1,17 +1,17 @@
 -- An end sees that no sender is left or that the list is closed, closes it, and is told that it never grows any more.
 use Rattle.std.proofs.Common.{ℕ, zero, suc, Bool, true, false, true≢false, List, [], length, sym, refl, ap, subst, inl, inr, ⊎_elim, arith}
 use Rattle.std.proofs.Common.{◌≡◌, ◌≢◌, ◌<◌, ◌≤◌, ◌⊎◌, ◌∷◌, ◌∙◌, if◌then◌else◌}
-use Rattle.std.specs.Prelude.{Option, Some, slice_set, slice_index}
+use Rattle.std.specs.Prelude.{None, Option, Some, slice_set, slice_index}
 use mathlib.Core.Option.{some, none}
 use lib.ListN.{get_elem?}
 use native.Mathlib.Decide.{ℕ_discrete}
 use Rattle.atomic_table.specs.Table.{State, Act, Step, keeps, step, stepped, Allows, Valid, carried_after}
 use Rattle.mb_channel.specs.Types.{Home, Homes, Knows}
-use Rattle.mb_channel.specs.Homes.{Agrees, AreLed, AreOver, Grows, IsIn, IsNear, IsNext, IsShut, Keeps, MayGive, Sat, Stands}
+use Rattle.mb_channel.specs.Homes.{Agrees, AreLed, AreOver, Grows, IsIn, IsNear, IsNext, IsShut, Keeps, MayGive, NobodyTold, Sat, Stands}
 use Rattle.mb_channel.specs.Homes.{is_in, sends, tallies, total, unlocked}
-use Rattle.mb_channel.specs.Tallies.{IsLast, closing, found_none, saw_closed, saw_none, sees_mark, sees_senders, told_last}
+use Rattle.mb_channel.specs.Tallies.{IsLast, closing, saw_closed, saw_none, saw_open, saw_sender, sees_mark, sees_senders, told_last}
 use Rattle.mb_channel.proofs.Members.{lock_view, senders_word, mark_word, set_same, tallies_stay}
-use Rattle.mb_channel.proofs.Moves.{AllFitEnd, busy_same, ended_stay, grows_same, has_part, moved, tallies_set, told_same, unlocks}
+use Rattle.mb_channel.proofs.Moves.{AllFitEnd, busy_same, ended_stay, grows_same, has_part, moved, nobody_set, over_grows, tallies_set, told_same, unlocks}
 use Rattle.mb_channel.proofs.Views.{below_total, there, total_set}
 
 some_number : (n : ℕ) → n ≢ 0 → 0 < n
@@ -23,17 +23,17 @@ some_is a b e = ap (λ (o : Option ℕ). Rattle.std.specs.Option.unwrap_or o a) 
 
 module _ {T : Type 0} where
   -- a step that changes what the view says of the senders, the mark and its looks alone
-  abbrev noticed : Bool → Bool → Bool → ℕ → Knows T → Knows T
-  noticed a b c d v = record v { may_add = a; alone = b; shut = c; found = d }
+  abbrev noticed : Bool → Bool → Bool → Bool → ℕ → Knows T → Knows T
+  noticed o a b c d v = record v { is_open = o; may_add = a; alone = b; shut = c; found = d }
 
-  notices : (s : State (Homes T) (Knows T)) (k : Keeps s) (id : ℕ) (v : Knows T) (a b c : Bool) (d : ℕ)
+  notices : (s : State (Homes T) (Knows T)) (k : Keeps s) (id : ℕ) (v : Knows T) (o a b c : Bool) (d : ℕ)
       (words : List ℕ) (mark : ℕ) → get_elem? s.views id ≡ some v → v.live ≡ true
       → ((lock : ℕ) → s.words ≡ lock ∷ tallies s.views k.mark
-      → words ≡ lock ∷ tallies (slice_set s.views id (noticed a b c d v)) mark)
-      → AllFitEnd s k id (noticed a b c d v) k.homes mark
-      → Keeps record { words = words; homes = s.homes; views = slice_set s.views id (noticed a b c d v) }
-  notices s k id v a b c d words mark at live same tells =
-      let w = noticed a b c d v in
+      → words ≡ lock ∷ tallies (slice_set s.views id (noticed o a b c d v)) mark)
+      → AllFitEnd s k id (noticed o a b c d v) k.homes mark
+      → Keeps record { words = words; homes = s.homes; views = slice_set s.views id (noticed o a b c d v) }
+  notices s k id v o a b c d words mark at live same tells =
+      let w = noticed o a b c d v in
       let f = k.fits id v at in
       let part = has_part k.homes k.all s.views id v f live in
       moved s k id v w at part refl k.homes k.all mark (grows_same k.homes) k.leads k.agrees (λ n _. refl)
@@ -57,21 +57,38 @@ module _ {T : Type 0} where
       → slice_set s.words i (slice_index s.words i) ≡ lock ∷ tallies (slice_set s.views id w) k.mark
   loaded s k id i v w at a b c lock e = set_same s.words i ∙ tallies_stay s k.mark id v w at a b c lock e
 
-  -- it sees the mark or looks, and sees no number of senders
-  sees_it : (s : State (Homes T) (Knows T)) (k : Keeps s) (id : ℕ) (v : Knows T) (a c : Bool) (d : ℕ)
-      → get_elem? s.views id ≡ some v → (a ≡ true → (v.holds ≡ true) × (0 < k.mark)) → (c ≡ true → k.mark ≡ 0)
-      → AllFitEnd s k id (noticed a v.alone c d v) k.homes k.mark
-  sees_it s k id v a c d at may_add shut =
+  -- it sees the mark or looks, and does not see that no sender is left
+  sees_it : (s : State (Homes T) (Knows T)) (k : Keeps s) (id : ℕ) (v : Knows T) (o a c : Bool) (d : ℕ)
+      → get_elem? s.views id ≡ some v → (o ≡ true → (v.holds ≡ true) × (0 < k.mark))
+      → (a ≡ true → (o ≡ true) × NobodyTold s.views) → (c ≡ true → k.mark ≡ 0)
+      → AllFitEnd s k id (noticed o a v.alone c d v) k.homes k.mark
+  sees_it s k id v o a c d at is_open may_add shut =
       let t = k.told id v at in
-      let w = noticed a v.alone c d v in
+      let w = noticed o a v.alone c d v in
       let b = total_set sends s.views id v w at in
       let same : total sends (slice_set s.views id w) ≡ total sends s.views = omega arith in
+      let nobody = nobody_set s.views id v w at refl in
       let x = told_same k.homes k.homes k.mark s.views (slice_set s.views id w) v (grows_same k.homes) refl
-      (λ q. same ∙ q) t in (
+      (λ q. same ∙ q) (λ _. nobody) t in (
         (λ j u ne at'. told_same k.homes k.homes k.mark s.views (slice_set s.views id w) u (grows_same k.homes) refl
-            (λ q. same ∙ q) (k.told j u at')),
-        record { may_add = may_add; alone = x.alone; shut = shut; over = x.over; last = x.last },
+            (λ q. same ∙ q) (λ _. nobody) (k.told j u at')),
+        record {
+          is_open = is_open;
+          may_add = λ q. let y = may_add q in (y.0, nobody y.1);
+          alone = x.alone;
+          shut = shut;
+          over = x.over;
+          last = x.last;
+        },
       )
+
+  -- where the list is not closed, and a sender is left
+  nobody_is : (s : State (Homes T) (Knows T)) (k : Keeps s) → 0 < k.mark → total sends s.views ≢ 0 → NobodyTold s.views
+  nobody_is s k open_ left j u at = go u.last refl
+    where
+      go : (o : Option ℕ) → u.last ≡ o → u.last ≡ None
+      go None e = e
+      go (Some n) e = ⊎_elim (λ z. absurd (omega arith)) (λ z. absurd (left z)) ((k.told j u at).last n e).1
 
   pub sees_whether : (slots id : ℕ) (me : Sat T) → me.0.live ≡ true → IsLast me.0
       → Allows Keeps slots id me 2 (λ n. n) (sees_senders (step slots 2 0 0 none) me)
@@ -84,16 +101,18 @@ module _ {T : Type 0} where
           let gone : total sends s.views ≡ 0 = sym (senders_word s k) ∙ e in
           let b = total_set sends s.views id v w at in
           let now : total sends (slice_set s.views id w) ≡ 0 = omega arith in
+          let nobody = nobody_set s.views id v w at refl in
           let mine = below_total sends s.views id v at in (
             w,
             keeps,
             tt,
-            notices s k id v v.may_add true v.shut v.found (slice_set s.words 2 (slice_index s.words 2)) k.mark at live
-                (loaded s k id 2 v w at refl refl refl) (
+            notices s k id v v.is_open v.may_add true v.shut v.found (slice_set s.words 2 (slice_index s.words 2))
+                k.mark at live (loaded s k id 2 v w at refl refl refl) (
                   (λ j u ne at'. told_same k.homes k.homes k.mark s.views (slice_set s.views id w) u
-                      (grows_same k.homes) refl (λ _. now) (k.told j u at')),
+                      (grows_same k.homes) refl (λ _. now) (λ _. nobody) (k.told j u at')),
                   record {
-                    may_add = t.may_add;
+                    is_open = t.is_open;
+                    may_add = λ q. let x = t.may_add q in (x.0, nobody x.1);
                     alone = λ _. now;
                     shut = t.shut;
                     over = t.over;
@@ -102,13 +121,14 @@ module _ {T : Type 0} where
                 ),
             (refl, last, (λ _. (refl, omega arith)), λ ne. absurd (ne e)),
           )
-      go (no ne) = let v = me.0 in let w = found_none v in (
+      go (no ne) = let v = me.0 in let t = k.told id v at in let w = saw_sender v in (
         w,
         keeps,
         tt,
-        notices s k id v v.may_add v.alone v.shut w.found (slice_set s.words 2 (slice_index s.words 2)) k.mark at live
-            (loaded s k id 2 v w at refl refl refl)
-            (sees_it s k id v v.may_add v.shut w.found at (k.told id v at).may_add (k.told id v at).shut),
+        notices s k id v v.is_open v.is_open v.alone v.shut w.found (slice_set s.words 2 (slice_index s.words 2))
+            k.mark at live (loaded s k id 2 v w at refl refl refl)
+            (sees_it s k id v v.is_open v.is_open v.shut w.found at t.is_open
+            (λ q. (q, nobody_is s k (t.is_open q).1 (λ z. ne (senders_word s k ∙ z)))) t.shut),
         (refl, last, (λ e. absurd (ne e)), λ _. refl),
       )
 
@@ -123,19 +143,21 @@ module _ {T : Type 0} where
         saw_closed v,
         keeps,
         tt,
-        notices s k id v v.may_add v.alone true v.found (slice_set s.words 4 (slice_index s.words 4)) k.mark at live
-            (loaded s k id 4 v (saw_closed v) at refl refl refl)
-            (sees_it s k id v v.may_add true v.found at (k.told id v at).may_add (λ _. sym (mark_word s k) ∙ e)),
+        notices s k id v v.is_open v.may_add v.alone true v.found (slice_set s.words 4 (slice_index s.words 4)) k.mark
+            at live (loaded s k id 4 v (saw_closed v) at refl refl refl)
+            (sees_it s k id v v.is_open v.may_add true v.found at (k.told id v at).is_open (k.told id v at).may_add
+            (λ _. sym (mark_word s k) ∙ e)),
         (refl, (λ _. refl), λ ne. absurd (ne e)),
       )
-      go (no ne) = let v = me.0 in let w : Knows T = record v { may_add = v.holds } in (
+      go (no ne) = let v = me.0 in let t = k.told id v at in let w = saw_open v in (
         w,
         keeps,
         tt,
-        notices s k id v v.holds v.alone v.shut v.found (slice_set s.words 4 (slice_index s.words 4)) k.mark at live
-            (loaded s k id 4 v w at refl refl refl)
-            (sees_it s k id v v.holds v.shut v.found at
-            (λ q. (q, some_number k.mark (λ z. ne (mark_word s k ∙ z)))) (k.told id v at).shut),
+        notices s k id v v.holds v.may_add v.alone v.shut v.found (slice_set s.words 4 (slice_index s.words 4)) k.mark
+            at live (loaded s k id 4 v w at refl refl refl)
+            (sees_it s k id v v.holds v.may_add v.shut v.found at
+            (λ q. (q, some_number k.mark (λ z. ne (mark_word s k ∙ z))))
+            (λ q. let x = t.may_add q in ((t.is_open x.0).0, x.1)) t.shut),
         (refl, (λ e. absurd (ne e)), λ _. refl),
       )
 
@@ -151,24 +173,26 @@ module _ {T : Type 0} where
       → Allows Keeps slots id me 4 (λ _. 0) (λ _. closing (step slots 4 0 0 none) me 0)
   closes_list slots id me live holds s k len at small =
       let v = me.0 in
-      let w : Knows T = record v { may_add = false; shut = true } in
+      let w : Knows T = record v { is_open = false; may_add = false; shut = true } in
       let t = k.told id v at in
       let b = total_set sends s.views id v w at in
       let same : total sends (slice_set s.views id w) ≡ total sends s.views = omega arith in (
         w,
         keeps,
         tt,
-        notices s k id v false v.alone true v.found (slice_set s.words 4 0) 0 at live
+        notices s k id v false false v.alone true v.found (slice_set s.words 4 0) 0 at live
             (λ lock e. ap (λ l. slice_set l 4 0) e ∙ ap (λ l. lock ∷ l)
             (sym (tallies_set s.views id v w 0 at refl refl refl))) (
               (λ j u ne at'. let x = k.told j u at' in record {
-                may_add = λ q. absurd (ne (one_holds s k j id u v at' at (x.may_add q).0 holds));
+                is_open = λ q. absurd (ne (one_holds s k j id u v at' at (x.is_open q).0 holds));
+                may_add = λ q. absurd (ne (one_holds s k j id u v at' at (x.is_open (x.may_add q).0).0 holds));
                 alone = λ q. same ∙ x.alone q;
                 shut = λ _. refl;
                 over = x.over;
                 last = λ n q. let y = x.last n q in (y.0, inl refl, y.2);
               }),
               record {
+                is_open = λ q. absurd (true≢false (sym q));
                 may_add = λ q. absurd (true≢false (sym q));
                 alone = λ q. same ∙ t.alone q;
                 shut = λ _. refl;
@@ -195,9 +219,9 @@ module _ {T : Type 0} where
       let same : total sends (slice_set s.views id w) ≡ total sends s.views = omega arith in
       let long : length hs ≡ length k.homes = ap length (sym now) in
       let grows : Grows k.homes hs = subst (λ l. Grows k.homes l) now (grows_same k.homes) in
-      let t = told_same k.homes hs k.mark s.views (slice_set s.views id w) v grows long (λ q. same ∙ q)
-      (k.told id v at) in
-      let never : IsShut k.mark (slice_set s.views id w) = ⊎_elim (λ q. inl (t.shut q)) (λ q. inr (t.alone q)) seen in (
+      let t = k.told id v at in
+      let never : IsShut k.mark (slice_set s.views id w) = ⊎_elim (λ q. inl (t.shut q))
+      (λ q. inr (same ∙ t.alone q)) seen in (
         k.all,
         grows,
         subst (λ l. AreLed l) now k.leads,
@@ -217,16 +241,17 @@ module _ {T : Type 0} where
         },
         (
           (λ j u ne at'. told_same k.homes hs k.mark s.views (slice_set s.views id w) u grows long (λ q. same ∙ q)
-              (k.told j u at')),
+              (λ on. absurd (ne (one_holds s k j id u v at' at on holds))) (k.told j u at')),
           record {
+            is_open = λ q. absurd (true≢false (sym q));
             may_add = λ q. absurd (true≢false (sym q));
-            alone = t.alone;
+            alone = λ q. same ∙ t.alone q;
             shut = t.shut;
-            over = t.over;
+            over = λ q. over_grows k.homes hs grows v.at (t.over q);
             last = λ m q. (
               ap length is ∙ size ∙ some_is n m q,
               never,
-              subst (λ i. AreOver hs i) (here.0 ∙ some_is n m q) (t.over here.1),
+              subst (λ i. AreOver hs i) (here.0 ∙ some_is n m q) (over_grows k.homes hs grows v.at (t.over here.1)),
             );
           },
         ),

@@ -1,5 +1,5 @@
 -- All segments that there ever were: first those that are freed, then those of the list.
-use Rattle.std.proofs.Common.{ℕ, zero, suc, List, [], length, sym, refl, ap, subst, inr, arith}
+use Rattle.std.proofs.Common.{ℕ, zero, suc, List, [], length, sym, refl, ap, subst, arith}
 use Rattle.std.proofs.Common.{◌≡◌, ◌+◌, ◌-◌, ◌<◌, ◌≤◌, ◌∷◌, ◌++◌, ◌∙◌}
 use Rattle.std.specs.Prelude.{slice_set, Result, Ok, Err, IfOk, OnErr}
 use Rattle.std.proofs.lemmas.List.{append_assoc, length-append}
@@ -158,10 +158,18 @@ module _ {T : Type 0} where
 
   pub longer_of : {E : Type 0} (r : Result (Unit {0}) E) (n : ℕ) (hs : List (Home T)) (l m : Homes T) → Stands hs l
       → length hs ≡ n
-      → IfOk r (λ _. (h : Home T) × IsNew h × (m.list.items ≡ l.list.items ++ h ∷ []))
-      → OnErr r (m.list.items ≡ l.list.items) → m.first ≡ l.first
-      → (gs : List (Home T)) × Stands gs m × Longer n hs gs
-  longer_of (Ok u) n hs l m s long more same first =
-      (hs ++ more.0 ∷ [], stands_more hs l m more.0 s more.2 first, inr (more.0, more.1, refl, long))
-  longer_of (Err e) n hs l m s long more same first =
-      (hs, stands_same hs l m s same first, Rattle.std.proofs.Common.inl refl)
+      → IfOk r (λ _. (h : Home T) × IsNew h × (m.list.items ≡ l.list.items ++ h ∷ [])) → m.first ≡ l.first
+      → (Q : Type 0) → ((gs : List (Home T)) → Stands gs m → Longer n hs gs → Q) → IfOk r (λ _. Q)
+  longer_of (Ok u) n hs l m s long more first Q f =
+      f (hs ++ more.0 ∷ []) (stands_more hs l m more.0 s more.2 first) (more.0, more.1, refl, long)
+  longer_of (Err e) n hs l m s long more first Q f = tt
+
+  pub same_of : {A E : Type 0} (r : Result A E) (hs : List (Home T)) (l m : Homes T) → Stands hs l
+      → OnErr r (m.list.items ≡ l.list.items) → m.first ≡ l.first → (Q : Type 0) → (Stands hs m → Q) → OnErr r Q
+  same_of (Ok u) hs l m s same first Q f = tt
+  same_of (Err e) hs l m s same first Q f = f (stands_same hs l m s same first)
+
+-- what follows either way
+pub of_either : {A E : Type 0} (P R Q : Type 0) (r : Result A E) → IfOk r (λ _. P) → OnErr r R → (P → Q) → (R → Q) → Q
+of_either P R Q (Ok a) p e f g = f p
+of_either P R Q (Err e) p q f g = g q

@@ -1,22 +1,25 @@
-mod Accounts
+pub mod Accounts
 mod Back
+mod Below
 mod Chairs
 mod Closing
 mod Counts
+mod Deeds
 mod EndLogs
 mod Ends
 mod Freed
-mod Lives
+pub mod Lives
 mod Logs
 mod LogsTold
 mod Members
 mod Moves
+mod Order
 mod Places
 mod Rests
 mod Since
 mod Stays
-mod Theorems
+pub mod Theorems
 mod Turns
 mod Views
-mod Visited
+pub mod Visited
 mod Whole

@@ -66,7 +66,7 @@ module _ {T : Type 0} where
       (agree_behind k all h hs agree) ended.2 i)
       ∙ ap (λ d. map (placed p) (at_visit g k (made_by n all)) ++ rows g (suc k) (p + d) hs (made_by n all)) size
 
-  values_same : (es : List (seg.Entry T)) → seg.values es ≡ map (λ e. e.value) (map entry es)
+  pub values_same : (es : List (seg.Entry T)) → seg.values es ≡ map (λ e. e.value) (map entry es)
   values_same [] = refl
   values_same (e ∷ es) = ap (λ l. e.value ∷ l) (values_same es)
 
@@ -177,7 +177,7 @@ module _ {T : Type 0} where
       subst (λ (x : Home T). AllHeed (came_back x)) (some-injective g h at) ended.0.heeds
   segments_heed (g ∷ hs) (l ∷ ls) ended (suc k) h at = segments_heed hs ls ended.2 k h at
 
-  is_there : (hs : List (Home T)) (k : ℕ) → k < length hs → (h : Home T) × (get_elem? hs k ≡ some h)
+  pub is_there : (hs : List (Home T)) (k : ℕ) → k < length hs → (h : Home T) × (get_elem? hs k ≡ some h)
   is_there [] k lt = absurd (omega arith)
   is_there (h ∷ hs) zero lt = (h, refl)
   is_there (h ∷ hs) (suc k) lt = is_there hs k (omega arith)

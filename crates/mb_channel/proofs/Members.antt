@@ -9,10 +9,10 @@ use Rattle.atomic_table.specs.Table.{State, Act, keeps, step, stepped, Allows, V
 use Rattle.atomic_table.proofs.Lists.{exchanged, set_again, at_set}
 use Rattle.mb_channel.specs.Types.{Home, Homes, Knows}
 use Rattle.mb_channel.specs.Homes.{IsFree, IsHeld, Keeps, Sat}
-use Rattle.mb_channel.specs.Homes.{counts_more, gets_number, receives, rights, sends, tallies, total}
-use Rattle.mb_channel.specs.Tallies.{counting, hires_receiver, hires_sender, retires_receiver, retires_sender}
+use Rattle.mb_channel.specs.Homes.{receives, rights, sends, tallies, total}
+use Rattle.mb_channel.specs.Tallies.{counting, counts_more, gets_number, hires_receiver, hires_sender, retires_receiver, retires_sender}
 use Rattle.mb_channel.specs.Homes.{is_in, times}
-use Rattle.mb_channel.proofs.Moves.{AllFitEnd, busy_same, ended_stay, grows_same, has_part, moved, tallies_set, stays_word, still_told, told_same}
+use Rattle.mb_channel.proofs.Moves.{AllFitEnd, busy_same, ended_stay, grows_same, has_part, moved, nobody_set, tallies_set, stays_word, still_told, told_same}
 use Rattle.mb_channel.proofs.Views.{below_total, not_true, total_set}
 
 pub set_same : (l : List ℕ) (i : ℕ) → slice_set l i (slice_index l i) ≡ l
@@ -98,8 +98,8 @@ module _ {T : Type 0} where
               idle = λ z. absurd (omega arith);
               ended = ended_stay s k id v w at part k.all (λ n _. refl);
             }
-            (still_told s k id v w k.homes at (grows_same k.homes) refl refl (k.told id v at).may_add refl refl refl
-            (k.told id v at).over)
+            (still_told s k id v w k.homes at (grows_same k.homes) refl refl (k.told id v at).is_open
+            (k.told id v at).may_add refl refl refl (k.told id v at).over)
             s.words s.homes (lock_view s k.homes k.mark k.mark s.words id v w at refl refl
             (tallies_stay s k.mark id v w at refl refl refl) k.lock)),
         (id, refl),
@@ -176,11 +176,19 @@ module _ {T : Type 0} where
       → AllFitEnd s k id (recounted a b c d v) k.homes k.mark
   tell_on s k id v a b c d at none_left alone =
       let w = recounted a b c d v in
+      let nobody = nobody_set s.views id v w at refl in
       let t = told_same k.homes k.homes k.mark s.views (slice_set s.views id w) v (grows_same k.homes) refl none_left
-      (k.told id v at) in (
+      (λ _. nobody) (k.told id v at) in (
         λ j u ne at'. told_same k.homes k.homes k.mark s.views (slice_set s.views id w) u (grows_same k.homes) refl
-            none_left (k.told j u at'),
-        record { may_add = t.may_add; alone = alone; shut = t.shut; over = t.over; last = t.last },
+            none_left (λ _. nobody) (k.told j u at'),
+        record {
+          is_open = t.is_open;
+          may_add = t.may_add;
+          alone = alone;
+          shut = t.shut;
+          over = t.over;
+          last = t.last;
+        },
       )
 
   pub senders_word : (s : State (Homes T) (Knows T)) (k : Keeps s) → slice_index s.words 2 ≡ total sends s.views

@@ -1,7 +1,7 @@
 -- Each step keeps the rule of the list.
 use Rattle.std.proofs.Common.{ℕ, zero, suc, true, false, true≢false, List, [], length, sym, refl, ap, subst, inl, inr, ⊎_elim, arith}
 use Rattle.std.proofs.Common.{◌≡◌, ◌≢◌, ◌+◌, ◌<◌, ◌⊎◌, ◌∷◌, ◌∙◌}
-use Rattle.std.specs.Prelude.{◌==◌, slice_set, slice_index}
+use Rattle.std.specs.Prelude.{◌==◌, None, slice_set, slice_index}
 use mathlib.Core.Option as maybe
 use mathlib.Core.Option.{some, none, some-injective, some-ne-none}
 use lib.ListN.{get_elem?}
@@ -9,8 +9,8 @@ use prog.Atomic.{either}
 use Rattle.atomic_table.specs.Table.{State, Act, keeps, takes, gives, step, stepped, Allows, Valid, carried_after, homes_after, put_back, rest}
 use Rattle.atomic_table.proofs.Lists.{exchanged, set_again, at_set, set_else}
 use Rattle.mb_channel.specs.Types.{Home, Homes, Knows, Past, arc_value}
-use Rattle.mb_channel.specs.Homes.{Agrees, AllPast, AreLed, AreOver, Fits, Grows, IsBusy, IsFree, IsHeld, IsIn, IsNear, IsNext, Keeps, Made, MayGive, PastFits, Sat, IsSpent, Stands, FitsEnd}
-use Rattle.mb_channel.specs.Homes.{count, how_many, is_in, locked, made_by, made_count, tallies, out_of, receives, rights, sends, takes_lock, total, unlocked}
+use Rattle.mb_channel.specs.Homes.{Agrees, AllPast, AreLed, AreOver, Fits, FitsEnd, Grows, IsBusy, IsFree, IsHeld, IsIn, IsNear, IsNext, Keeps, Made, MayGive, NobodyTold, PastFits}
+use Rattle.mb_channel.specs.Homes.{Sat, IsSpent, Stands, count, how_many, is_in, locked, made_by, made_count, tallies, out_of, receives, rights, sends, takes_lock, total, unlocked}
 use Rattle.mb_channel.proofs.Views.{below_total, in_here, none_many, not_true, past_map, size_set, there, total_set}
 
 module _ {T : Type 0} where
@@ -73,11 +73,22 @@ module _ {T : Type 0} where
       let z : total receives (slice_set views id w) ≡ total receives views = omega arith in
       λ i. x i ∷ y i ∷ z i ∷ mark ∷ []
 
+  pub nobody_else : (views : List (Knows T)) (id : ℕ) (w : Knows T) → w.last ≡ None → NobodyTold views
+      → NobodyTold (slice_set views id w)
+  nobody_else views id w none_ nobody j u e = ⊎_elim
+      (λ (t : (j ≡ id) × (w ≡ u)). ap (λ (z : Knows T). z.last) (sym t.1) ∙ none_)
+      (λ (t : (j ≢ id) × (get_elem? views j ≡ some u)). nobody j u t.1) (at_set views id j w u e)
+
+  pub nobody_set : (views : List (Knows T)) (id : ℕ) (v w : Knows T) → get_elem? views id ≡ some v
+      → w.last ≡ v.last → NobodyTold views → NobodyTold (slice_set views id w)
+  nobody_set views id v w at same nobody = nobody_else views id w (same ∙ nobody id v at) nobody
+
   pub told_same : (hs gs : List (Home T)) (mark : ℕ) (views ws : List (Knows T)) (u : Knows T)
-      → Grows hs gs → length gs ≡ length hs → (total sends views ≡ 0 → total sends ws ≡ 0) → FitsEnd hs mark views u
-      → FitsEnd gs mark ws u
-  told_same hs gs mark views ws u grows size none_left t = record {
-    may_add = t.may_add;
+      → Grows hs gs → length gs ≡ length hs → (total sends views ≡ 0 → total sends ws ≡ 0)
+      → (u.holds ≡ true → NobodyTold views → NobodyTold ws) → FitsEnd hs mark views u → FitsEnd gs mark ws u
+  told_same hs gs mark views ws u grows size none_left nobody t = record {
+    is_open = t.is_open;
+    may_add = λ q. let x = t.may_add q in (x.0, nobody (t.is_open x.0).0 x.1);
     alone = λ q. none_left (t.alone q);
     shut = t.shut;
     over = λ q. over_grows hs gs grows u.at (t.over q);
@@ -96,17 +107,21 @@ module _ {T : Type 0} where
   -- where the list and the number of senders stay
   pub still_told : (s : State (Homes T) (Knows T)) (k : Keeps s) (id : ℕ) (v w : Knows T) (hs : List (Home T))
       → get_elem? s.views id ≡ some v → Grows k.homes hs → length hs ≡ length k.homes → w.sends ≡ v.sends
-      → (w.may_add ≡ true → (w.holds ≡ true) × (0 < k.mark)) → w.alone ≡ v.alone → w.shut ≡ v.shut → w.last ≡ v.last
+      → (w.is_open ≡ true → (w.holds ≡ true) × (0 < k.mark))
+      → (w.may_add ≡ true → (w.is_open ≡ true) × NobodyTold s.views)
+      → w.alone ≡ v.alone → w.shut ≡ v.shut → w.last ≡ v.last
       → (w.orderly ≡ true → AreOver hs w.at) → AllFitEnd s k id w hs k.mark
-  still_told s k id v w hs at grows size same may_add alone shut last over =
+  still_told s k id v w hs at grows size same is_open may_add alone shut last over =
       let b = total_set sends s.views id v w at in
       let e : total sends (slice_set s.views id w) ≡ total sends s.views = omega arith in
-      let t = told_same k.homes hs k.mark s.views (slice_set s.views id w) v grows size (λ q. e ∙ q)
+      let nobody = nobody_set s.views id v w at last in
+      let t = told_same k.homes hs k.mark s.views (slice_set s.views id w) v grows size (λ q. e ∙ q) (λ _. nobody)
       (k.told id v at) in (
         λ j u ne at'. told_same k.homes hs k.mark s.views (slice_set s.views id w) u grows size (λ q. e ∙ q)
-            (k.told j u at'),
+            (λ _. nobody) (k.told j u at'),
         record {
-          may_add = may_add;
+          is_open = is_open;
+          may_add = λ q. let x = may_add q in (x.0, nobody x.1);
           alone = λ q. t.alone (sym alone ∙ q);
           shut = λ q. t.shut (sym shut ∙ q);
           over = over;
@@ -236,7 +251,8 @@ module _ {T : Type 0} where
               ended = ended_stay s k id v w at part k.all (λ n _. refl);
             }
             (still_told s k id v w k.homes at (grows_same k.homes) refl refl
-            (λ q. (refl, ((k.told id v at).may_add q).1)) refl refl refl (k.told id v at).over)
+            (λ q. (refl, ((k.told id v at).is_open q).1)) (k.told id v at).may_add refl refl refl
+            (k.told id v at).over)
             (slice_set s.words 0 1) (slice_set s.homes 0 none)
             (inr (
               id,

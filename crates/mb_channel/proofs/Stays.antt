@@ -155,7 +155,8 @@ module _ {T : Type 0} where
           ended = ended_stay s k id v w at' part (m ∷ k.all) others;
         },
         still_told s k id v w hs at' (subst (λ l. Grows k.homes l) (sym now) grows)
-            (ap length now ∙ size_set k.homes v.at g) refl (λ q. absurd (true≢false (sym q))) refl refl refl
+            (ap length now ∙ size_set k.homes v.at g) refl (λ q. absurd (true≢false (sym q)))
+            (λ q. absurd (true≢false (sym q))) refl refl refl
             (λ q. subst (λ l. AreOver l (suc v.at)) (sym now) (one_more IsOver (slice_set k.homes v.at g) v.at
             (over_grows k.homes (slice_set k.homes v.at g) grows v.at
             ((k.told id v at').over (both_are v.orderly (is_over x) q).0))
@@ -205,7 +206,8 @@ module _ {T : Type 0} where
           ended = ended_stay s k id v w at' part k.all (λ j _. refl);
         },
         still_told s k id v w hs at' (subst (λ l. Grows k.homes l) (sym now) grows)
-            (ap length now ∙ size_set k.homes v.at g) refl (λ q. absurd (true≢false (sym q))) refl refl refl
+            (ap length now ∙ size_set k.homes v.at g) refl (λ q. absurd (true≢false (sym q)))
+            (λ q. absurd (true≢false (sym q))) refl refl refl
             (λ q. subst (λ l. AreOver l v.at) (sym now) (over_grows k.homes (slice_set k.homes v.at g) grows v.at
             ((k.told id v at').over q))),
       ))
@@ -251,6 +253,6 @@ module _ {T : Type 0} where
           ended = ended_stay s k id v w at part k.all (λ n _. refl);
         },
         still_told s k id v w hs at (subst (λ l. Grows k.homes l) now (grows_same k.homes)) (ap length (sym now)) refl
-            (λ q. absurd (true≢false (sym q))) refl refl refl
+            (λ q. absurd (true≢false (sym q))) (λ q. absurd (true≢false (sym q))) refl refl refl
             (λ _ i lt. let d = there_ i lt in (d.0, d.1, done_over d.0 d.2)),
       ))

@@ -60,13 +60,13 @@ module _ {T : Type 0} where
   AllVisits P [] = Unit {0}
   AllVisits P (v ∷ vs) = P v.account × AllVisits P vs
 
-  spots_at : (p : ℕ) (ss : List (Position T)) (ks : List ℕ) → Heeds ss ks
+  pub spots_at : (p : ℕ) (ss : List (Position T)) (ks : List ℕ) → Heeds ss ks
       → map (λ (c : Call T). c.spot) (calls_at p ss ks) ≡ map (placed p) ss
   spots_at p [] ks heeds = refl
   spots_at p (s ∷ ss) [] heeds = absurd heeds
   spots_at p (s ∷ ss) (k ∷ ks) heeds = ap (λ l. placed p s ∷ l) (spots_at p ss ks heeds.1)
 
-  behind_at : (p : ℕ) (ss : List (Position T)) (ks : List ℕ) → Heeds ss ks
+  pub behind_at : (p : ℕ) (ss : List (Position T)) (ks : List ℕ) → Heeds ss ks
       → All (λ (c : Call T). c.knew ≤ c.spot.at) (calls_at p ss ks)
   behind_at p [] ks heeds = All-nil (λ (c : Call T). c.knew ≤ c.spot.at)
   behind_at p (s ∷ ss) [] heeds = absurd heeds

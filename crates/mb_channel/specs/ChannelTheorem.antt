@@ -118,7 +118,7 @@ pub record EachMoment {T : Type 0} (m : Moment T) : Type 0 where
   -- Once a receive told "closed", nothing can be sent and nothing waits. Once a send told it, one side is closed
   pub closed : m.is_told ≡ true → IsOver m × (waiting m ≡ 0)
   pub refused : m.is_refused ≡ true → (m.is_closed ≡ true) ⊎ (m.receivers ≡ 0)
-  -- Point 5, no wake-up is lost: if nobody owes anything, nobody sleeps beside a value or after the end
+  -- Point 5, no wake-up is lost: with nothing owed and no token out, nobody sleeps beside a value or after the end
   pub awake : (s : Segment T) → Contains m.segments s → IsAwake (s.is_over ≡ false) (waiting m) s.sleepers
   pub ended : (m.is_closed ≡ true) ⊎ (m.senders ≡ 0) → (0 < m.closers) ⊎ All (λ s. s.is_over ≡ true) m.segments
 

@@ -1,22 +1,23 @@
 -- What an end sent and received in all, and which channel it belongs to.
-use Rattle.std.specs.Prelude.{◌≡◌, ◌<◌, ◌≤◌, ◌⊎◌, List, [], map, true, IfSome, Option, is_some}
+use Rattle.std.specs.Prelude.{◌≡◌, ◌<◌, ◌≤◌, ◌⊎◌, Bool, List, [], map, true, false, IfSome, Option, is_some}
 use Rattle.atomic_table.specs.declared.shared.Seat.{Seat}
 use Rattle.mb_segment.specs.Vocabulary.{is_over}
 use Rattle.mb_channel.specs.Types.{Homes, Knows, View}
-use Rattle.mb_channel.specs.declared.channel.Channel.{Channel}
+use Rattle.mb_channel.specs.declared.place.Place.{Place}
+use Rattle.mb_channel.specs.Deeds.{Deed}
 use Rattle.mb_channel.specs.declared.end.End.{End}
 use Rattle.mb_channel.specs.Closing.{KnowsEnd}
-use Rattle.mb_channel.specs.Inside.{Log, found_there, log_in, log_of_past, pass_there, told_in}
+use Rattle.mb_channel.specs.Inside.{Log, found_there, known_there, log_in, log_of_past, pass_there, told_in}
 
 abbrev pub view_of : {T : Type 0} → End T → Knows T
 view_of e = e.chair.me.0
 
--- all values that the end sent, and all that it received, in order
-abbrev pub sent_by : {T : Type 0} → End T → List T
-sent_by e = log_in (λ a. a.sent) (view_of e).visits (pass_there e.inside)
+-- all calls by which the end sent a value, and all by which it received one, in order
+abbrev pub sent_by : {T : Type 0} → End T → List (Deed T)
+sent_by e = log_in (λ a. a.sent) (view_of e) (pass_there e.inside)
 
-abbrev pub got_by : {T : Type 0} → End T → List T
-got_by e = log_in (λ a. a.got) (view_of e).visits (pass_there e.inside)
+abbrev pub got_by : {T : Type 0} → End T → List (Deed T)
+got_by e = log_in (λ a. a.got) (view_of e) (pass_there e.inside)
 
 abbrev pub log_of : {T : Type 0} → End T → Log T
 log_of e = record { number = (view_of e).number; sent = sent_by e; got = got_by e }
@@ -29,8 +30,8 @@ given_to e = map log_of_past (view_of e).ended
 abbrev pub IsFresh : {T : Type 0} → End T → Type 0
 IsFresh e = (sent_by e ≡ []) × (got_by e ≡ []) × ((view_of e).ended ≡ [])
 
-abbrev pub IsEndOf : {T : Type 0} → Channel T → End T → Type 0
-IsEndOf c e = e.chair.table_id ≡ c.list.table.shared.table_id
+abbrev pub AreOfOneChannel : {T : Type 0} → End T → End T → Type 0
+AreOfOneChannel d e = e.chair.table_id ≡ d.chair.table_id
 
 -- if it knew that the list is closed, that no sender is left, or how many segments there are for ever, it still does
 abbrev pub StaysTold : {T : Type 0} → Knows T → Knows T → Type 0
@@ -45,10 +46,16 @@ pub record Standing (T : Type 0) : Type 0 where
 abbrev pub stand_of : {T : Type 0} → End T → Standing T
 stand_of e = record { chair = e.chair; pass = pass_there e.inside }
 
--- it has gone on, or is where it was. It never forgets a look: at its segment while it is there, or behind the last one
+-- it knows of all sends before this place, or, if b is true and it may receive, of all receives
+abbrev pub knows : {T : Type 0} → Bool → Standing T → Place
+knows b v = record { segment = v.chair.me.0.at; number = known_there b v.pass }
+
+-- it has gone on, or is where it was. It never forgets a look, at its segment while it is there, or behind the last one.
+-- Nor does it forget what it knows
 abbrev pub IsLater : {T : Type 0} → Standing T → Standing T → Type 0
 IsLater v w = (v.chair.me.0.found ≤ w.chair.me.0.found) × ((v.chair.me.0.at < w.chair.me.0.at)
-    ⊎ ((v.chair.me.0.at ≡ w.chair.me.0.at) × (found_there v.pass ≤ found_there w.pass)))
+    ⊎ ((v.chair.me.0.at ≡ w.chair.me.0.at) × (found_there v.pass ≤ found_there w.pass)
+    × (known_there false v.pass ≤ known_there false w.pass) × (known_there true v.pass ≤ known_there true w.pass)))
 
 -- the same end, later: no other was given back to it meanwhile, and it counts for as many senders and receivers
 pub record IsOne {T : Type 0} (v w : Standing T) : Type 0 where

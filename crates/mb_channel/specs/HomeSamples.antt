@@ -1,7 +1,8 @@
 -- Samples of the list of segments. End 0 sent 10 and 11 in segment 0, and 12 in segment 1. End 1 took 10.
-use Rattle.std.specs.Prelude.{ℕ, List, [], ◌∷◌}
+use Rattle.std.specs.Prelude.{ℕ, List, Some, [], true, ◌∷◌}
+use Rattle.mb_channel.specs.declared.place.Place.{Place}
 use Rattle.mb_channel.specs.Types.{Knows, Past, Visit}
-use Rattle.mb_channel.specs.Homes.{Made}
+use Rattle.mb_channel.specs.Homes.{Made, first_view}
 use Rattle.mb_channel.specs.LifeSamples.{last_end, one_got, one_sent, two_sent, visit}
 
 -- this visit of end n
@@ -29,3 +30,16 @@ last_of_two = record last_end { at = 2 }
 -- end 1 was given back to it twice
 abbrev pub given_twice : Knows ℕ
 given_twice = record last_end { ended = idle_end ∷ idle_end ∷ [] }
+
+-- ---- the list's end
+-- it may add a segment
+abbrev pub adder : Knows ℕ
+adder = record first_view { holds = true; is_open = true; may_add = true }
+
+-- it was told that there are no segments, for ever
+abbrev pub told_none : Knows ℕ
+told_none = record first_view { shut = true; last = Some 0 }
+
+-- ---- places
+abbrev pub place : ℕ → ℕ → Place
+place k n = record { segment = k; number = n }

@@ -117,6 +117,7 @@ first_view = record {
   ended = [];
   holds = false;
   before = [];
+  is_open = false;
   may_add = false;
   alone = false;
   shut = false;
@@ -144,13 +145,18 @@ receives v = v.receives
 abbrev pub tallies : {T : Type 0} → List (Knows T) → ℕ → List ℕ
 tallies views mark = total rights views ∷ total sends views ∷ total receives views ∷ mark ∷ []
 
--- the list never grows any more
+-- the list is closed, or no sender is left
 abbrev pub IsShut : {T : Type 0} → ℕ → List (Knows T) → Type 0
 IsShut mark views = (mark ≡ 0) ⊎ (total sends views ≡ 0)
 
+-- no end was told that the list never grows any more
+abbrev pub NobodyTold : {T : Type 0} → List (Knows T) → Type 0
+NobodyTold {T} views = (id : ℕ) (v : Knows T) → get_elem? views id ≡ some v → v.last ≡ None
+
 -- what a view says of the senders, the mark, and the segments, is so
 pub record FitsEnd {T : Type 0} (hs : List (Home T)) (mark : ℕ) (views : List (Knows T)) (v : Knows T) : Type 0 where
-  pub may_add : v.may_add ≡ true → (v.holds ≡ true) × (0 < mark)
+  pub is_open : v.is_open ≡ true → (v.holds ≡ true) × (0 < mark)
+  pub may_add : v.may_add ≡ true → (v.is_open ≡ true) × NobodyTold views
   pub alone : v.alone ≡ true → total sends views ≡ 0
   pub shut : v.shut ≡ true → mark ≡ 0
   pub over : v.orderly ≡ true → AreOver hs v.at
@@ -254,10 +260,7 @@ abbrev pub locked : {T : Type 0} → List (Home T) → Knows T → Knows T
 locked hs v = record v { holds = true; before = hs }
 
 abbrev pub unlocked : {T : Type 0} → Knows T → Knows T
-unlocked v = record v { holds = false; before = []; may_add = false }
-
-abbrev pub counts_more : {T : Type 0} → Knows T → Knows T
-counts_more v = record v { rights = v.rights + 1 }
+unlocked v = record v { holds = false; before = []; is_open = false; may_add = false }
 
 abbrev pub past_of : {T : Type 0} → Knows T → Past T
 past_of v = record { number = v.number; visits = v.visits }
@@ -335,9 +338,6 @@ gives_lock f st m r n = (n.0 ≡ f (unlocked m.0)) × (n.1 ≡ []) × (n.0.found
 abbrev pub MayGive : {T : Type 0} → (Knows T → Knows T) → ℕ → ℕ → Sat T → Type 0
 MayGive f slots id me = Allows Keeps slots id me 0 (λ _. 0) (λ _. gives_lock f (step slots 0 0 0 none) me 0)
 
-abbrev pub gets_number : {T : Type 0} → Step (Homes T) → Sat T → ℕ → Sat T → Type 0
-gets_number st m r n = (id : ℕ) × (n ≡ (record m.0 { live = true; number = id }, m.1))
-
 -- ---- what a hub did under the lock
 -- it took back a pass with this view, and knows that much more
 abbrev pub HasTakenBack : {T : Type 0} → Home T → Home T → View T → Type 0
@@ -355,14 +355,13 @@ Changes {T} hs gs k P = (h : Home T) × (g : Home T) × (get_elem? hs k ≡ some
 abbrev pub IsNew : {T : Type 0} → Home T → Type 0
 IsNew h = hub_view h.hub ≡ new_hub
 
--- the list, with a new segment at place k or not
+-- the list, with a new segment at place k
 abbrev pub Longer : {T : Type 0} → ℕ → List (Home T) → List (Home T) → Type 0
-Longer {T} k hs gs = (gs ≡ hs) ⊎ ((h : Home T) × IsNew h × (gs ≡ hs ++ h ∷ []) × (length hs ≡ k))
+Longer {T} k hs gs = (h : Home T) × IsNew h × (gs ≡ hs ++ h ∷ []) × (length hs ≡ k)
 
--- an end that has the lock may leave this list: as it was; or longer by a segment at its place, if the end sends, saw that
--- the list is not closed, and was orderly
+-- an end that has the lock may leave the list as it was, or, if it may add and was orderly, longer by one at its place
 abbrev pub MayLeave : {T : Type 0} → Knows T → List (Home T) → Type 0
-MayLeave v hs = (hs ≡ v.before) ⊎ ((0 < v.sends) × (v.may_add ≡ true) × (v.orderly ≡ true) × Longer v.at v.before hs)
+MayLeave v hs = (hs ≡ v.before) ⊎ ((v.may_add ≡ true) × (v.orderly ≡ true) × Longer v.at v.before hs)
 
 -- the pass is of this segment
 abbrev pub IsPassOf : {T : Type 0} → Option (Arc (Segment T Global) Global) → Pass T → Type 0
@@ -397,4 +396,5 @@ HoldsHomes {T} m P = (l : Homes T) × (m.1 ≡ (0, l) ∷ []) × (hs : List (Hom
 
 -- the end has a number, and not the lock
 abbrev pub IsReady : {T : Type 0} → Sat T → Type 0
-IsReady m = (m.0.live ≡ true) × (m.0.holds ≡ false) × (m.0.before ≡ []) × (m.1 ≡ []) × (m.0.may_add ≡ false)
+IsReady m = (m.0.live ≡ true) × (m.0.holds ≡ false) × (m.0.before ≡ []) × (m.1 ≡ []) × (m.0.is_open ≡ false)
+    × (m.0.may_add ≡ false)

@@ -1,7 +1,8 @@
 -- What an end has of the segment where it is, and what its visits and its pass there list.
-use Rattle.std.specs.Prelude.{ℕ, ◌<◌, ◌++◌, Bool, false, List, [], ◌∷◌, map, Option, Some, None}
+use Rattle.std.specs.Prelude.{ℕ, ◌<◌, ◌++◌, Bool, true, false, List, [], ◌∷◌, Option, Some, None}
 use Rattle.mb_segment.specs.Moves.{SawAllTaken, found_empty}
-use Rattle.mb_channel.specs.Types.{Account, Arc, Global, Pass, Past, Position, Segment, View, Visit}
+use Rattle.mb_channel.specs.Types.{Account, Arc, Global, Knows, Pass, Past, Position, Segment, View, Visit}
+use Rattle.mb_channel.specs.Deeds.{Deed, deeds_at}
 use Rattle.mb_channel.specs.declared.inside.Inside.{Inside}
 
 -- the pass, at work
@@ -46,25 +47,28 @@ abbrev pub found_there : {T : Type 0} → Option (View T) → ℕ
 found_there None = 0
 found_there (Some v) = found_empty v
 
--- ---- logs
-abbrev pub values : {T : Type 0} → List (Position T) → List T
-values = map (λ s. s.value)
+-- how many positions its pass knows to be drawn there, or, if b is true, to be claimed
+abbrev pub known_there : {T : Type 0} → Bool → Option (View T) → ℕ
+known_there b None = 0
+known_there false (Some v) = v.known.drawn
+known_there true (Some v) = v.known.taken
 
+-- ---- logs
 -- what the accounts of these visits list, the oldest first
-abbrev pub in_visits : {T : Type 0} → (Account T → List (Position T)) → List (Visit T) → List T
+abbrev pub in_visits : {T : Type 0} → (Account T → List (Position T)) → List (Visit T) → List (Deed T)
 in_visits f [] = []
-in_visits f (v ∷ vs) = in_visits f vs ++ values (f v.account)
+in_visits f (v ∷ vs) = in_visits f vs ++ deeds_at v.segment (f v.account)
 
 -- and then the account of the pass that the end has
-abbrev pub log_in : {T : Type 0} → (Account T → List (Position T)) → List (Visit T) → Option (View T) → List T
-log_in f vs None = in_visits f vs
-log_in f vs (Some v) = in_visits f vs ++ values (f v.account)
+abbrev pub log_in : {T : Type 0} → (Account T → List (Position T)) → Knows T → Option (View T) → List (Deed T)
+log_in f k None = in_visits f k.visits
+log_in f k (Some v) = in_visits f k.visits ++ deeds_at k.at (f v.account)
 
 -- ---- an end that was given back
 pub record Log (T : Type 0) : Type 0 where
   pub number : ℕ
-  pub sent : List T
-  pub got : List T
+  pub sent : List (Deed T)
+  pub got : List (Deed T)
 
 abbrev pub log_of_past : {T : Type 0} → Past T → Log T
 log_of_past p = record {

@@ -19,24 +19,21 @@ OfLook heard.Asleep v d = NoMore v (stand_with d) × Sleeps d.busy
 OfLook heard.Again v d = NoMore v (stand_with d) × IsAwake d.busy
 OfLook heard.Over v d = NoMore v (stand_with d) × (d.busy.pass.seat.me.0.over ≡ true) × IsAwake d.busy
 
--- a value was received, perhaps with something owed. It sleeps. Nothing was received, perhaps with something owed. It is
--- behind the last segment. Or the receive is refused
-abbrev pub OfPolled : {T : Type 0} → Polled T → Standing T → (Asleep T → Type 0) → (Receiver T → Type 0)
-    → (Receiver T → Refused → Type 0) → Type 0
-OfPolled (polled.Took r x) v sleeps none refused = OneGot x v (stand_of r.end)
-OfPolled (polled.TookOwing l x) v sleeps none refused = OneGot x v (stand_with l.debtor)
-OfPolled (polled.Sleeps a) v sleeps none refused = NoMore v (stand_with a.debtor) × Sleeps a.debtor.busy × sleeps a
-OfPolled (polled.Again r) v sleeps none refused = NoMore v (stand_of r.end)
-OfPolled (polled.Owes l) v sleeps none refused = NoMore v (stand_with l.debtor)
-OfPolled (polled.Empty r) v sleeps none refused = NoMore v (stand_of r.end) × none r
-OfPolled (polled.Refused r why) v sleeps none refused = NoMore v (stand_of r.end) × refused r why
+-- a value was received, perhaps with something owed. It sleeps. Nothing was received, perhaps with something owed. Or the
+-- receive is refused
+abbrev pub OfPolled : {T : Type 0} → Polled T → Standing T → (Asleep T → Type 0) → (Receiver T → Refused → Type 0) → Type 0
+OfPolled (polled.Took r x) v sleeps refused = OneGot x v (stand_of r.end)
+OfPolled (polled.TookOwing l x) v sleeps refused = OneGot x v (stand_with l.debtor)
+OfPolled (polled.Sleeps a) v sleeps refused = NoMore v (stand_with a.debtor) × Sleeps a.debtor.busy × sleeps a
+OfPolled (polled.Again r) v sleeps refused = NoMore v (stand_of r.end)
+OfPolled (polled.Owes l) v sleeps refused = NoMore v (stand_with l.debtor)
+OfPolled (polled.Refused r why) v sleeps refused = NoMore v (stand_of r.end) × refused r why
 
 -- the receive is refused, since the channel is closed
-abbrev pub TellsClosed : {T : Type 0} → Polled T → Type 0
-TellsClosed (polled.Took r x) = ⊥
-TellsClosed (polled.TookOwing l x) = ⊥
-TellsClosed (polled.Sleeps a) = ⊥
-TellsClosed (polled.Again r) = ⊥
-TellsClosed (polled.Owes l) = ⊥
-TellsClosed (polled.Empty r) = ⊥
-TellsClosed (polled.Refused r why) = why ≡ Closed
+abbrev pub PollClosed : {T : Type 0} → Polled T → Type 0
+PollClosed (polled.Took r x) = ⊥
+PollClosed (polled.TookOwing l x) = ⊥
+PollClosed (polled.Sleeps a) = ⊥
+PollClosed (polled.Again r) = ⊥
+PollClosed (polled.Owes l) = ⊥
+PollClosed (polled.Refused r why) = why ≡ Closed

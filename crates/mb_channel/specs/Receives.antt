@@ -7,8 +7,8 @@ use Rattle.mb_channel.specs.declared.tried.Tried.TheVariants.{Again, Empty, Valu
 use Rattle.mb_channel.specs.Ends.{Standing}
 use Rattle.mb_channel.specs.Inside.{found_there}
 
--- since v, it looked in the segment where it is, and found that none waits there. At that moment all was claimed that it
--- had sent or seen marked there
+-- since v, it looked in the segment where it is, and counted that none waits there: at that moment nothing waited in the
+-- channel. All was claimed that it had sent or seen marked there
 abbrev pub SawEmpty : {T : Type 0} → Standing T → Standing T → Type 0
 SawEmpty {T} v w = (x : View T) × (w.pass ≡ Some x) × SawAllTaken x
     × (((v.chair.me.0.at < w.chair.me.0.at) × (0 < found_empty x))

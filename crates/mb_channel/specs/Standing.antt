@@ -1,5 +1,5 @@
 -- What a call does to what an end sent and received in all, also while it owes something in its segment.
-use Rattle.std.specs.Prelude.{◌≡◌, ◌++◌, ◌∷◌, [], List, Some, true}
+use Rattle.std.specs.Prelude.{◌≡◌, List, Some, true, false}
 use Rattle.mb_channel.specs.declared.debtor.Debtor.{Debtor}
 use Rattle.mb_channel.specs.declared.debtor.Step.{Step}
 use Rattle.mb_channel.specs.declared.debtor.Step.TheVariants as step
@@ -7,17 +7,18 @@ use Rattle.mb_channel.specs.declared.try_sends.Sending.{Sending}
 use Rattle.mb_channel.specs.declared.try_sends.Sending.TheVariants as sending
 use Rattle.mb_channel.specs.declared.channel.Refused.TheVariants.{Closed}
 use Rattle.mb_channel.specs.Answers.{IfClosed}
-use Rattle.mb_channel.specs.Ends.{IsBehind, IsOne, SawOver, Standing, stand_of, view_of}
+use Rattle.mb_channel.specs.Deeds.{Deed, OneMore}
+use Rattle.mb_channel.specs.Ends.{IsBehind, IsOne, SawOver, Standing, knows, stand_of, view_of}
 use Rattle.mb_channel.specs.Inside.{log_in}
 
 abbrev pub stand_with : {T : Type 0} → Debtor T → Standing T
 stand_with d = record { chair = d.chair; pass = Some d.busy.pass.seat.me.0 }
 
-abbrev pub sent_in : {T : Type 0} → Standing T → List T
-sent_in v = log_in (λ a. a.sent) v.chair.me.0.visits v.pass
+abbrev pub sent_in : {T : Type 0} → Standing T → List (Deed T)
+sent_in v = log_in (λ a. a.sent) v.chair.me.0 v.pass
 
-abbrev pub got_in : {T : Type 0} → Standing T → List T
-got_in v = log_in (λ a. a.got) v.chair.me.0.visits v.pass
+abbrev pub got_in : {T : Type 0} → Standing T → List (Deed T)
+got_in v = log_in (λ a. a.got) v.chair.me.0 v.pass
 
 -- it sent nothing and received nothing
 pub record NoMore {T : Type 0} (v w : Standing T) : Type 0 where
@@ -25,17 +26,17 @@ pub record NoMore {T : Type 0} (v w : Standing T) : Type 0 where
   pub sent : sent_in w ≡ sent_in v
   pub got : got_in w ≡ got_in v
 
--- it sent x
+-- it sent x, behind all sends that it knew of
 pub record OneSent {T : Type 0} (x : T) (v w : Standing T) : Type 0 where
   pub one : IsOne v w
-  pub sent : sent_in w ≡ sent_in v ++ x ∷ []
+  pub sent : OneMore x (knows false v) (knows false w) (sent_in v) (sent_in w)
   pub got : got_in w ≡ got_in v
 
--- it received x
+-- it received x, behind all receives that it knew of
 pub record OneGot {T : Type 0} (x : T) (v w : Standing T) : Type 0 where
   pub one : IsOne v w
   pub sent : sent_in w ≡ sent_in v
-  pub got : got_in w ≡ got_in v ++ x ∷ []
+  pub got : OneMore x (knows true v) (knows true w) (got_in v) (got_in w)
 
 abbrev pub OfStep : {T : Type 0} → Step T → T → Standing T → Type 0
 OfStep (step.Sent e) x v = OneSent x v (stand_of e)

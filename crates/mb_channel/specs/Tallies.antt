@@ -4,6 +4,12 @@ use Rattle.atomic_table.specs.Table.{Step}
 use Rattle.mb_channel.specs.Types.{Homes, Knows}
 use Rattle.mb_channel.specs.Homes.{Sat}
 
+abbrev pub gets_number : {T : Type 0} → Step (Homes T) → Sat T → ℕ → Sat T → Type 0
+gets_number st m r n = (id : ℕ) × (n ≡ (record m.0 { live = true; number = id }, m.1))
+
+abbrev pub counts_more : {T : Type 0} → Knows T → Knows T
+counts_more v = record v { rights = v.rights + 1 }
+
 -- it counts for one sender or receiver more, or less. Whoever retires the last sender knows that
 abbrev pub hires_sender : {T : Type 0} → Knows T → Knows T
 hires_sender v = record v { sends = v.sends + 1 }
@@ -31,7 +37,7 @@ saw_closed v = record v { shut = true }
 
 -- it saw that the list is not closed. While it has the lock, that stays so
 abbrev pub saw_open : {T : Type 0} → Knows T → Knows T
-saw_open v = record v { may_add = v.holds }
+saw_open v = record v { is_open = v.holds }
 
 -- it has the lock, and is behind the last segment
 abbrev pub IsLast : {T : Type 0} → Knows T → Type 0
@@ -41,11 +47,16 @@ IsLast v = (v.holds ≡ true) × (length v.before ≡ v.at)
 abbrev pub found_none : {T : Type 0} → Knows T → Knows T
 found_none v = record v { found = if v.takes then suc v.found else v.found }
 
+-- it saw that a sender is left. If it also saw that the list is not closed, nobody was told that the list never grows.
+-- While it has the lock, that stays so: it may add a segment
+abbrev pub saw_sender : {T : Type 0} → Knows T → Knows T
+saw_sender v = record (found_none v) { may_add = v.is_open }
+
 -- a load of the number of senders, by an end that has the lock and is behind the last segment. It counts that if a
 -- sender is left. And a load of the mark
 abbrev pub sees_senders : {T : Type 0} → Step (Homes T) → Sat T → ℕ → Sat T → Type 0
 sees_senders st m r n = (n.1 ≡ m.1) × IsLast m.0 × (r ≡ 0 → (n.0 ≡ saw_none m.0) × (m.0.sends ≡ 0))
-    × (r ≢ 0 → n.0 ≡ found_none m.0)
+    × (r ≢ 0 → n.0 ≡ saw_sender m.0)
 
 abbrev pub sees_mark : {T : Type 0} → Step (Homes T) → Sat T → ℕ → Sat T → Type 0
 sees_mark st m r n = (n.1 ≡ m.1) × (r ≡ 0 → n.0 ≡ saw_closed m.0)
@@ -53,7 +64,7 @@ sees_mark st m r n = (n.1 ≡ m.1) × (r ≡ 0 → n.0 ≡ saw_closed m.0)
 
 -- the end that has the lock closes the list
 abbrev pub closing : {T : Type 0} → Step (Homes T) → Sat T → ℕ → Sat T → Type 0
-closing st m r n = (n.1 ≡ m.1) × (n.0 ≡ record m.0 { may_add = false; shut = true })
+closing st m r n = (n.1 ≡ m.1) × (n.0 ≡ record m.0 { is_open = false; may_add = false; shut = true })
 
 -- it is told that there are just n segments, for ever: it saw that the list is closed or that no sender is left. So each
 -- of them is over

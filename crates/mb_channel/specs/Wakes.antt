@@ -86,5 +86,4 @@ after_polled (polled.TookOwing l x) = wakes_with l.debtor
 after_polled (polled.Sleeps a) = wakes_with a.debtor
 after_polled (polled.Again r) = wakes_of r.end
 after_polled (polled.Owes l) = wakes_with l.debtor
-after_polled (polled.Empty r) = wakes_of r.end
 after_polled (polled.Refused r why) = wakes_of r.end

@@ -1,5 +1,6 @@
 -- What an end has of its segment, at rest or with something owed, and what a step does to that.
-use Rattle.std.specs.Prelude.{◌≡◌, ◌≢◌, ◌≤◌, ◌++◌, ◌∷◌, [], true}
+use Rattle.std.specs.Prelude.{ℕ, ◌≡◌, ◌≢◌, ◌<◌, ◌≤◌, ◌++◌, ◌∷◌, [], true}
+use Rattle.mb_segment.specs.Vocabulary.{spot}
 use Rattle.mb_segment.specs.Moves.{found_empty, is_over}
 use Rattle.mb_channel.specs.Types.{Arc, Global, Segment, View}
 use Rattle.mb_channel.specs.declared.attempt.Attempt.{Attempt}
@@ -9,7 +10,6 @@ use Rattle.mb_channel.specs.declared.busy.Debt.TheVariants as owed
 use Rattle.mb_channel.specs.declared.inside.Inside.{Inside}
 use Rattle.mb_channel.specs.declared.heard.Heard.{Heard}
 use Rattle.mb_channel.specs.declared.heard.Heard.TheVariants as heard
-use Rattle.mb_channel.specs.Inside.{values}
 
 -- the segment, and what the pass knows there
 pub record Work (T : Type 0) : Type 0 where
@@ -22,9 +22,10 @@ work_in i = record { segment = i.segment; pass = i.pass.seat.me.0 }
 abbrev pub work_of : {T : Type 0} → Busy T → Work T
 work_of b = record { segment = b.segment; pass = b.pass.seat.me.0 }
 
--- the same segment, where it looked as often or more, and found that none waits
+-- the same segment, where it looked as often or more, and found that none waits. It knows as much or more
 abbrev pub IsThere : {T : Type 0} → Work T → Work T → Type 0
 IsThere v w = (w.segment ≡ v.segment) × (found_empty v.pass ≤ found_empty w.pass)
+    × (v.pass.known.drawn ≤ w.pass.known.drawn) × (v.pass.known.taken ≤ w.pass.known.taken)
 
 -- nothing was sent or received there, and it was not told now that no value can come
 pub record IsStill {T : Type 0} (v w : Work T) : Type 0 where
@@ -32,17 +33,23 @@ pub record IsStill {T : Type 0} (v w : Work T) : Type 0 where
   pub account : w.pass.account ≡ v.pass.account
   pub told : w.pass.over ≡ v.pass.over
 
--- it sent x there, and received nothing
+-- it sent x there, at a position that is not below what it knew, and knows of that. It received nothing
 pub record HasSent {T : Type 0} (x : T) (v w : Work T) : Type 0 where
   pub there : IsThere v w
-  pub sent : values w.pass.account.sent ≡ values v.pass.account.sent ++ x ∷ []
+  pub number : ℕ
+  pub sent : w.pass.account.sent ≡ v.pass.account.sent ++ spot number x ∷ []
+  pub behind : v.pass.known.drawn ≤ number
+  pub known : number < w.pass.known.drawn
   pub got : w.pass.account.got ≡ v.pass.account.got
   pub told : w.pass.over ≡ v.pass.over
 
--- it received x there, and sent nothing
+-- it received x there, from a position that is not below what it knew, and knows of that. It sent nothing
 pub record HasGot {T : Type 0} (x : T) (v w : Work T) : Type 0 where
   pub there : IsThere v w
-  pub got : values w.pass.account.got ≡ values v.pass.account.got ++ x ∷ []
+  pub number : ℕ
+  pub got : w.pass.account.got ≡ v.pass.account.got ++ spot number x ∷ []
+  pub behind : v.pass.known.taken ≤ number
+  pub known : number < w.pass.known.taken
   pub sent : w.pass.account.sent ≡ v.pass.account.sent
   pub told : w.pass.over ≡ v.pass.over
 

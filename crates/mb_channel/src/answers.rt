@@ -9,23 +9,14 @@ pub enum Came<T: Drop> {
     /// The segment is freed, and so are all before the one of this number: nothing waits in them, for ever. The end goes
     /// on to that one.
     Gone(usize),
-    /// There is no such segment yet.
+    /// There is no such segment yet: the end adds none, or the allocator refused the memory.
     NotYet,
+    /// There was no such segment, and the end added it.
+    Added,
     /// There is no such segment, and never will be: the list is closed, or no sender is left.
     Closed,
     /// So many ends are in the segment that they cannot be counted.
     Crowded,
-    /// The lock is taken.
-    Locked,
-}
-
-/// What came of adding a segment.
-#[derive(Clone, Copy, PartialEq, Eq, Debug, Drop)]
-pub enum Appended {
-    /// It is there, added now or before.
-    There,
-    /// The list is closed. Nothing was added.
-    Closed,
     /// The lock is taken.
     Locked,
 }

@@ -20,6 +20,7 @@ pub enum Attempt<T: Drop> {
 
 impl<T: Drop> Inside<T> {
     /// Tries to send a value here.
+    #[inline(always)]
     pub(crate) fn try_send(self, value: T) -> Attempt<T>
         ensures answer { OfAttempt result value (work_in self) }
         ensures wakes { Tells 0 (wakes_in self) (after_attempt result) }

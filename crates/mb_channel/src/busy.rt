@@ -51,6 +51,7 @@ impl<T: Drop> Busy<T> {
         ensures still { IsStill (work_of self.old) (work_of self.new) }
         ensures awake { IsAwake self.new }
         ensures wakes { Tells (one_if result) (wakes_by self.old) (wakes_by self.new) }
+        ensures told { (wakes_by self.new).untold ≡ 0 }
     {
         match self.segment.wake(&mut self.pass) {
             Wake::Nobody => {
@@ -71,6 +72,7 @@ impl<T: Drop> Busy<T> {
         ensures still { IsStill (work_of self.old) (work_of self.new) }
         ensures awake { IsAwake self.new }
         ensures wakes { Tells (one_if result) (wakes_by self.old) (wakes_by self.new) }
+        ensures told { (wakes_by self.new).untold ≡ 0 }
     {
         match self.segment.wake_all(&mut self.pass) {
             Wake::Nobody => {
@@ -88,6 +90,7 @@ impl<T: Drop> Busy<T> {
         ensures still { IsStill (work_of self.old) (work_of self.new) }
         ensures awake { IsAwake self.new }
         ensures wakes { Tells 0 (wakes_by self.old) (wakes_by self.new) }
+        ensures told { (wakes_by self.new).untold ≡ 0 }
     {
         match self.segment.leave(&mut self.pass) {
             Leave::Left => self.debt = Debt::Nothing,
@@ -102,6 +105,7 @@ impl<T: Drop> Busy<T> {
         ensures still { IsStill (work_of self.old) (work_of self.new) }
         ensures awake { IsAwake self.new }
         ensures wakes { Tells (one_if result) (wakes_by self.old) (wakes_by self.new) }
+        ensures told { (wakes_by self.new).untold ≡ 0 }
     {
         match self.segment.wake(&mut self.pass) {
             Wake::Nobody => {
@@ -121,6 +125,7 @@ impl<T: Drop> Busy<T> {
         ensures still { IsStill (work_of self.old) (work_of self.new) }
         ensures awake { IsAwake self.new }
         ensures wakes { Tells 0 (wakes_by self.old) (wakes_by self.new) }
+        ensures told { (wakes_by self.new).untold ≡ (wakes_by self.old).untold }
     {
         match self.debt {
             Debt::Fresh => {
@@ -144,6 +149,7 @@ impl<T: Drop> Busy<T> {
         ensures still { IsStill (work_of self.old) (work_of self.new) }
         ensures awake { IsAwake self.new }
         ensures wakes { Tells (one_if result) (wakes_by self.old) (wakes_by self.new) }
+        ensures told { (wakes_by self.new).untold ≡ 0 }
     {
         match self.debt {
             Debt::Nothing => false,
@@ -158,7 +164,7 @@ impl<T: Drop> Busy<T> {
                 false
             }
             Debt::Unseen => self.give_unseen(),
-            _ => {
+            Debt::Fresh | Debt::Asleep | Debt::Look => {
                 self.give_up();
                 false
             }
@@ -180,6 +186,17 @@ impl<T: Drop> Busy<T> {
             debt: _,
         } = self;
         Ok(rested(segment, pass))
+    }
+
+    /// Lets go of the pass, whatever it owes.
+    pub(crate) fn let_go(self) {
+        let Busy {
+            segment,
+            pass,
+            debt: _,
+        } = self;
+        pass.let_go();
+        drop(segment);
     }
 
     /// Pays all, and wakes the threads.

@@ -1,9 +1,7 @@
-//! A channel, and how its ends come from segment to segment.
+//! How the ends of a channel come from segment to segment.
 use crate::answers::Came;
 use crate::end::End;
 use crate::inside::Inside;
-use crate::list::List;
-use std::alloc::Global;
 
 /// How often a call that never waits leaves a segment or comes to one, at most.
 pub(crate) const TRIES: u32 = 4;
@@ -19,84 +17,52 @@ pub enum Refused {
     Crowded,
 }
 
-/// A channel without a bound, for any number of senders and receivers.
-#[derive(Drop)]
-pub struct Channel<T: Drop> {
-    pub(crate) list: List<T>,
-    pub(crate) alloc: Global,
-}
-
-/// How many positions the segment at this place has.
-fn size_at(at: usize) -> u32 {
-    if at == 0 { 64 } else { 1024 }
-}
-
-impl<T: Drop> Channel<T> {
+impl<T: Drop> End<T> {
     ghost use Rattle.std.specs.Prelude.{◌≡◌, ◌<◌, true, false, is_some, Err, IfErr, IfOk};
-    ghost use Rattle.mb_channel.specs.declared.channel.Refused.TheVariants.{Closed, NoMemory};
+    ghost use Rattle.mb_channel.specs.declared.channel.Refused.TheVariants.{Closed};
     ghost use Rattle.mb_channel.specs.Answers.{IfClosed};
     ghost use Rattle.mb_channel.specs.Receives.{FoundNone};
-    ghost use Rattle.mb_channel.specs.Ends.{IsBehind, IsEndOf, IsOver, IsSame, SawOver, got_by, sent_by, stand_of, view_of};
+    ghost use Rattle.mb_channel.specs.Ends.{IsBehind, IsOver, IsSame, SawOver, got_by, sent_by, stand_of, view_of};
     ghost use Rattle.mb_channel.specs.Wakes.{Tells, wakes_of};
 
-    /// Adds a segment where the end is, if there is none yet. A list that is closed stays as it is: the end hears that
-    /// where it comes next.
-    fn append(&self, end: &mut End<T>) -> Result<(), Refused>
-        requires channel { IsEndOf self.now end.old }
-        requires sender { 0 < (view_of end.old).sends }
-        ensures end { IsSame end.old end.new }
-        ensures sent { sent_by end.new ≡ sent_by end.old }
-        ensures got { got_by end.new ≡ got_by end.old }
-        ensures wakes { Tells 0 (wakes_of end.old) (wakes_of end.new) }
-        ensures takes { (view_of end.new).takes ≡ (view_of end.old).takes }
-        ensures refused { IfErr result (λ why. why ≡ NoMemory) }
-    {
-        let at = end.at;
-        match self
-            .list
-            .append(&mut end.chair, at, self.alloc, size_at(at))
-        {
-            Ok(_) => Ok(()),
-            Err(_) => Err(Refused::NoMemory),
-        }
-    }
-
-    /// Tries to come to the segment at the end's place. It is `false` if there is none yet. Once it was told that the
-    /// channel is closed, it is told so without a look.
-    pub(crate) fn reach(&self, end: &mut End<T>, takes: bool) -> Result<bool, Refused>
-        requires channel { IsEndOf self.now end.old }
-        requires outside { is_some end.old.inside ≡ false }
-        requires side { takes ≡ true → (view_of end.old).takes ≡ true }
-        ensures end { IsSame end.old end.new }
-        ensures sent { sent_by end.new ≡ sent_by end.old }
-        ensures got { got_by end.new ≡ got_by end.old }
-        ensures wakes { Tells 0 (wakes_of end.old) (wakes_of end.new) }
-        ensures takes { takes ≡ true → (view_of end.new).takes ≡ true }
+    /// Tries to come to the segment at the end's place. If there is none yet, it may add it. It is `false` if there is
+    /// none yet and it added none. Once it was told that the channel is closed, it is told so without a look.
+    fn come(&mut self, takes: bool, adds: bool) -> Result<bool, Refused>
+        requires outside { is_some self.old.inside ≡ false }
+        requires side { takes ≡ true → (view_of self.old).takes ≡ true }
+        ensures end { IsSame self.old self.new }
+        ensures sent { sent_by self.new ≡ sent_by self.old }
+        ensures got { got_by self.new ≡ got_by self.old }
+        ensures wakes { Tells 0 (wakes_of self.old) (wakes_of self.new) }
+        ensures takes { takes ≡ true → (view_of self.new).takes ≡ true }
         ensures none { takes ≡ true → IfOk result (λ there. there ≡ false
-            → FoundNone (stand_of end.old) (stand_of end.new)) }
-        ensures closed { IfErr result (λ why. IfClosed why (IsBehind end.new)) }
-        ensures still { IsBehind end.old → result ≡ Err Closed }
+            → FoundNone (stand_of self.old) (stand_of self.new)) }
+        ensures closed { IfErr result (λ why. IfClosed why (IsBehind self.new)) }
+        ensures still { IsBehind self.old → result ≡ Err Closed }
     {
-        if end.behind {
+        if self.behind {
             return Err(Refused::Closed);
         }
-        let at = end.at;
+        let at = self.at;
         if at == usize::MAX {
             return Err(Refused::Crowded);
         }
-        match self.list.come(&mut end.chair, at, takes) {
+        match self.list.come(&mut self.chair, at, takes, adds) {
             Came::Here(segment, pass) => {
                 let pass = pass.rest();
-                end.inside = Some(Inside { segment, pass });
+                self.inside = Some(Inside { segment, pass });
                 Ok(true)
             }
             Came::Gone(first) => {
-                end.at = first;
+                self.at = first;
                 Ok(true)
             }
+            // A receiver waits for memory, which any end may free.
+            Came::NotYet if adds && !takes => Err(Refused::NoMemory),
             Came::NotYet => Ok(false),
+            Came::Added => Ok(true),
             Came::Closed => {
-                end.behind = true;
+                self.behind = true;
                 Err(Refused::Closed)
             }
             Came::Crowded => Err(Refused::Crowded),
@@ -104,86 +70,60 @@ impl<T: Drop> Channel<T> {
         }
     }
 
-    /// The same, and if there is none yet, a sender adds one.
-    fn come(&self, end: &mut End<T>, takes: bool) -> Result<bool, Refused>
-        requires channel { IsEndOf self.now end.old }
-        requires outside { is_some end.old.inside ≡ false }
-        requires side { takes ≡ true → (view_of end.old).takes ≡ true }
-        requires sender { takes ≡ false → 0 < (view_of end.old).sends }
-        ensures end { IsSame end.old end.new }
-        ensures sent { sent_by end.new ≡ sent_by end.old }
-        ensures got { got_by end.new ≡ got_by end.old }
-        ensures wakes { Tells 0 (wakes_of end.old) (wakes_of end.new) }
-        ensures takes { takes ≡ true → (view_of end.new).takes ≡ true }
-        ensures none { IfOk result (λ there. there ≡ false
-            → FoundNone (stand_of end.old) (stand_of end.new)) }
-        ensures closed { IfErr result (λ why. IfClosed why (IsBehind end.new)) }
-        ensures still { IsBehind end.old → result ≡ Err Closed }
-    {
-        let there = self.reach(end, takes)?;
-        if there || takes {
-            return Ok(there);
-        }
-        self.append(end)?;
-        Ok(true)
-    }
-
     /// Tries to leave the segment where the end is, which is over. An end that is in none has left.
-    pub(crate) fn leave(&self, end: &mut End<T>) -> bool
-        requires channel { IsEndOf self.now end.old }
-        requires over { SawOver end.old }
-        ensures end { IsSame end.old end.new }
-        ensures sent { sent_by end.new ≡ sent_by end.old }
-        ensures got { got_by end.new ≡ got_by end.old }
-        ensures wakes { Tells 0 (wakes_of end.old) (wakes_of end.new) }
-        ensures takes { (view_of end.old).takes ≡ true → IsOver end.old
-            → (view_of end.new).takes ≡ true }
-        ensures left { result ≡ true → is_some end.new.inside ≡ false }
+    fn leave(&mut self) -> bool
+        requires over { SawOver self.old }
+        ensures end { IsSame self.old self.new }
+        ensures sent { sent_by self.new ≡ sent_by self.old }
+        ensures got { got_by self.new ≡ got_by self.old }
+        ensures wakes { Tells 0 (wakes_of self.old) (wakes_of self.new) }
+        ensures takes { (view_of self.old).takes ≡ true → IsOver self.old
+            → (view_of self.new).takes ≡ true }
+        ensures left { result ≡ true → is_some self.new.inside ≡ false }
     {
-        let at = end.at;
-        let Some(inside) = end.inside.take() else {
+        let at = self.at;
+        let Some(inside) = self.inside.take() else {
             return true;
         };
         let Inside { segment, pass } = inside;
-        match self.list.leave(&mut end.chair, at, pass.pass(), end.over) {
+        match self.list.leave(&mut self.chair, at, pass.pass(), self.over) {
             Ok(_) => {
-                end.at = at + 1;
-                end.over = false;
+                self.at = at + 1;
+                self.over = false;
                 true
             }
             Err(pass) => {
                 let pass = pass.rest();
-                end.inside = Some(Inside { segment, pass });
+                self.inside = Some(Inside { segment, pass });
                 false
             }
         }
     }
 
-    /// Goes on: leaves the segment where the end is, or comes to the next one. It is a try, which may change nothing if
-    /// the lock is taken. It is `false` for a receiver if the next one is not there yet.
+    /// Goes on: leaves the segment where the end is, or comes to the next one, or adds that. It is a try, which may change
+    /// nothing if the lock is taken. It is `false` if the next one is not there yet, and was not added: this end adds
+    /// none, or it is a receiver and the allocator refused the memory.
     #[cold]
     #[inline(never)]
-    pub(crate) fn go_on(&self, end: &mut End<T>, takes: bool) -> Result<bool, Refused>
-        requires channel { IsEndOf self.now end.old }
-        requires side { takes ≡ true → (view_of end.old).takes ≡ true }
-        requires sender { takes ≡ false → 0 < (view_of end.old).sends }
-        requires done { takes ≡ true → IsOver end.old }
-        requires over { SawOver end.old }
-        ensures end { IsSame end.old end.new }
-        ensures sent { sent_by end.new ≡ sent_by end.old }
-        ensures got { got_by end.new ≡ got_by end.old }
-        ensures wakes { Tells 0 (wakes_of end.old) (wakes_of end.new) }
-        ensures takes { takes ≡ true → (view_of end.new).takes ≡ true }
-        ensures none { IfOk result (λ there. there ≡ false
-            → FoundNone (stand_of end.old) (stand_of end.new)) }
-        ensures closed { IfErr result (λ why. IfClosed why (IsBehind end.new)) }
-        ensures still { IsBehind end.old → result ≡ Err Closed }
+    pub(crate) fn go_on(&mut self, takes: bool, adds: bool) -> Result<bool, Refused>
+        requires side { takes ≡ true → (view_of self.old).takes ≡ true }
+        requires done { takes ≡ true → IsOver self.old }
+        requires over { SawOver self.old }
+        ensures end { IsSame self.old self.new }
+        ensures sent { sent_by self.new ≡ sent_by self.old }
+        ensures got { got_by self.new ≡ got_by self.old }
+        ensures wakes { Tells 0 (wakes_of self.old) (wakes_of self.new) }
+        ensures takes { takes ≡ true → (view_of self.new).takes ≡ true }
+        ensures none { takes ≡ true → IfOk result (λ there. there ≡ false
+            → FoundNone (stand_of self.old) (stand_of self.new)) }
+        ensures closed { IfErr result (λ why. IfClosed why (IsBehind self.new)) }
+        ensures still { IsBehind self.old → result ≡ Err Closed }
     {
-        if end.inside.is_some() {
-            self.leave(end);
+        if self.inside.is_some() {
+            self.leave();
             Ok(true)
         } else {
-            self.come(end, takes)
+            self.come(takes, adds)
         }
     }
 }

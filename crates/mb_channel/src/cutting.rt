@@ -4,9 +4,10 @@ ghost use Rattle.mb_segment.specs.Vocabulary.{is_over};
 ghost use Rattle.mb_channel.specs.Inside.{account_in, told_in};
 ghost use Rattle.mb_channel.specs.Tallies.{saw_closed};
 ghost use Rattle.mb_channel.specs.Work.{IsThere, work_in};
-ghost use Rattle.mb_channel.specs.Ends.{HasEnded, IsBehind, IsEndOf, IsSame, SawOver, StaysTold, given_to, got_by, log_of, sent_by, view_of};
+ghost use Rattle.mb_channel.specs.Ends.{AreOfOneChannel, HasEnded, IsBehind, IsLater, IsSame, SawOver, StaysTold};
+ghost use Rattle.mb_channel.specs.Ends.{given_to, got_by, log_of, sent_by, stand_of, view_of};
 
-use crate::channel::{Channel, Refused};
+use crate::channel::Refused;
 use crate::end::{End, Receiver, Sender};
 use crate::inside::{Inside, rested};
 use crate::rule::AsNobody;
@@ -44,37 +45,18 @@ impl<T: Drop> End<T> {
     }
 }
 
-impl<T: Drop> Channel<T> {
+impl<T: Drop> End<T> {
     /// Cuts the segment where the end is and all behind it, in a list that is closed or has no sender. The end is then
     /// behind the last. It may not receive from then on.
-    pub(crate) fn cut_all<R: Wait>(&self, rt: &R, end: &mut End<T>)
-        requires channel { IsEndOf self.now end.old }
-        ensures end { IsSame end.old end.new }
-        ensures behind { IsBehind end.new }
-        ensures sent { sent_by end.new ≡ sent_by end.old }
-        ensures got { got_by end.new ≡ got_by end.old }
+    pub(crate) fn cut_all<R: Wait>(&mut self, rt: &R)
+        ensures end { IsSame self.old self.new }
+        ensures behind { IsBehind self.new }
+        ensures sent { sent_by self.new ≡ sent_by self.old }
+        ensures got { got_by self.new ≡ got_by self.old }
     {
         for _ in rt.forever() {
-            end.cut(rt);
-            if self.leave(end) {
-                if let Err(Refused::Closed) = self.reach(end, false) {
-                    return;
-                }
-            }
-            yield_now();
-        }
-        unreachable!()
-    }
-
-    /// Closes the list: no segment is added any more.
-    fn close_list<R: Wait>(&self, rt: &R, end: &mut End<T>)
-        requires channel { IsEndOf self.now end.old }
-        ensures chair { (end.new.chair.table_id ≡ end.old.chair.table_id)
-            × (end.new.inside ≡ end.old.inside) × (end.new.behind ≡ end.old.behind) }
-        ensures view { view_of end.new ≡ saw_closed (view_of end.old) }
-    {
-        for _ in rt.forever() {
-            if self.list.close(&mut end.chair) {
+            self.cut(rt);
+            if let Err(Refused::Closed) = self.go_on(false, false) {
                 return;
             }
             yield_now();
@@ -82,43 +64,72 @@ impl<T: Drop> Channel<T> {
         unreachable!()
     }
 
-    /// Closes the channel, for ever: no more can be sent, and each later send of this end is refused. All receivers that
-    /// sleep are woken, and what is left can be received.
-    pub fn close<R: Wait>(&self, rt: &R, sender: &mut Sender<T>)
-        requires channel { IsEndOf self.now sender.old.end }
-        ensures end { IsSame sender.old.end sender.new.end }
-        ensures closed { (view_of sender.new.end).shut ≡ true }
-        ensures ended { HasEnded sender.new.end × IsBehind sender.new.end }
-        ensures sent { sent_by sender.new.end ≡ sent_by sender.old.end }
-        ensures got { got_by sender.new.end ≡ got_by sender.old.end }
+    /// Closes the list: no segment is added any more.
+    fn close_list<R: Wait>(&mut self, rt: &R)
+        ensures chair { (self.new.chair.table_id ≡ self.old.chair.table_id)
+            × (self.new.inside ≡ self.old.inside) × (self.new.behind ≡ self.old.behind) }
+        ensures view { view_of self.new ≡ saw_closed (view_of self.old) }
     {
-        self.close_list(rt, &mut sender.end);
-        self.cut_all(rt, &mut sender.end);
+        for _ in rt.forever() {
+            if self.try_close_list() {
+                return;
+            }
+            yield_now();
+        }
+        unreachable!()
     }
 
+    /// Tries to do so. It is `false` if the lock is taken.
+    pub(crate) fn try_close_list(&mut self) -> bool
+        ensures chair { (self.new.chair.table_id ≡ self.old.chair.table_id)
+            × (self.new.inside ≡ self.old.inside) × (self.new.behind ≡ self.old.behind) }
+        ensures closed { result ≡ true → view_of self.new ≡ saw_closed (view_of self.old) }
+        ensures missed { result ≡ false → view_of self.new ≡ view_of self.old }
+    {
+        self.list.close(&mut self.chair)
+    }
+}
+
+impl<T: Drop> Sender<T> {
+    /// Closes the channel, for ever: no more can be sent, and each later send of this end is refused. All receivers that
+    /// sleep are woken, and what is left can be received.
+    pub fn close<R: Wait>(&mut self, rt: &R)
+        ensures end { IsSame self.old.end self.new.end }
+        ensures closed { (view_of self.new.end).shut ≡ true }
+        ensures ended { HasEnded self.new.end × IsBehind self.new.end }
+        ensures sent { sent_by self.new.end ≡ sent_by self.old.end }
+        ensures got { got_by self.new.end ≡ got_by self.old.end }
+    {
+        let end = &mut self.end;
+        end.close_list(rt);
+        end.cut_all(rt);
+    }
+}
+
+impl<T: Drop> Receiver<T> {
     /// The same by a receiver, which goes on receiving what is left. It makes an end that goes on for it, and takes that
     /// back. It is `false` if so many ends were made that they cannot be counted: then the channel is closed, but no
     /// segment is cut, and nothing else has changed.
-    pub fn close_by_receiver<R: Wait>(&self, rt: &R, receiver: &mut Receiver<T>) -> bool
-        requires channel { IsEndOf self.now receiver.old.end }
-        ensures channel { IsEndOf self.now receiver.new.end }
-        ensures logs { log_of receiver.new.end ≡ log_of receiver.old.end }
-        ensures told { StaysTold (view_of receiver.old.end) (view_of receiver.new.end) }
-        ensures behind { IsBehind receiver.old.end → IsBehind receiver.new.end }
-        ensures closed { (view_of receiver.new.end).shut ≡ true }
-        ensures ended { result ≡ true → HasEnded receiver.new.end }
-        ensures given { result ≡ true → (n : ℕ) × (given_to receiver.new.end
-            ≡ given_to receiver.old.end ++ record { number = n; sent = []; got = [] } ∷ []) }
-        ensures refused { result ≡ false → (receiver.new.end.inside ≡ receiver.old.end.inside)
-            × (view_of receiver.new.end ≡ saw_closed (view_of receiver.old.end)) }
+    pub fn close<R: Wait>(&mut self, rt: &R) -> bool
+        ensures channel { AreOfOneChannel self.old.end self.new.end }
+        ensures logs { log_of self.new.end ≡ log_of self.old.end }
+        ensures told { StaysTold (view_of self.old.end) (view_of self.new.end) }
+        ensures later { IsLater (stand_of self.old.end) (stand_of self.new.end) }
+        ensures behind { IsBehind self.old.end → IsBehind self.new.end }
+        ensures closed { (view_of self.new.end).shut ≡ true }
+        ensures ended { result ≡ true → HasEnded self.new.end }
+        ensures given { result ≡ true → (n : ℕ) × (given_to self.new.end
+            ≡ given_to self.old.end ++ record { number = n; sent = []; got = [] } ∷ []) }
+        ensures refused { result ≡ false → (self.new.end.inside ≡ self.old.end.inside)
+            × (view_of self.new.end ≡ saw_closed (view_of self.old.end)) }
     {
-        self.close_list(rt, &mut receiver.end);
-        if !self.count_one(rt, &mut receiver.end) {
+        self.end.close_list(rt);
+        let Some(list) = self.end.count_one() else {
             return false;
-        }
-        let mut other = self.split::<AsNobody>(&mut receiver.end);
-        self.cut_all(rt, &mut other);
-        self.take_in(rt, &mut receiver.end, other);
+        };
+        let mut other = self.end.split::<AsNobody>(list);
+        other.cut_all(rt);
+        self.end.take_in(rt, other);
         true
     }
 }

@@ -1,20 +1,23 @@
 //! An end that owes something in the segment where it is.
 ghost use Rattle.std.specs.Prelude.{◌≡◌, ◌<◌, [], Some, true, false};
+ghost use Rattle.std.specs.Arc.{arc_value};
 ghost use Rattle.mb_channel.specs.Homes.{IsReady, view_in};
 
 use crate::attempt::Attempt;
 use crate::busy::Busy;
 use crate::end::End;
-use crate::list::Chair;
+use crate::list::{Chair, SharedList};
 use std::sync::Wait;
 
 /// An end that owes something in its segment. It cannot be dropped.
 pub struct Debtor<T: Drop> {
+    pub(crate) list: SharedList<T>,
     pub(crate) chair: Chair<T>,
     pub(crate) at: usize,
     pub(crate) rights: u64,
     pub(crate) busy: Busy<T>,
     pub(crate) over: bool,
+    ghost same: { chair.table_id ≡ (arc_value list).table.shared.table_id },
     ghost ready: { IsReady chair.me },
     ghost here: { (view_in chair).at ≡ at },
     ghost counts: { 0 < (view_in chair).rights },
@@ -53,13 +56,12 @@ impl<T: Drop> End<T> {
         if self.inside.is_none() {
             return Step::Over(self, value);
         }
+        let (at, rights, over) = (self.at, self.rights, self.over);
         let End {
+            list,
             chair,
-            at,
-            rights,
             inside,
-            over,
-            behind: _,
+            ..
         } = self;
         let Some(inside) = inside else { unreachable!() };
         let (inside, back) = match inside.try_send(value) {
@@ -68,6 +70,7 @@ impl<T: Drop> End<T> {
             Attempt::Over(inside, value) => (inside, Some((value, false))),
             Attempt::Owes(busy) => {
                 return Step::Owes(Debtor {
+                    list,
                     chair,
                     at,
                     rights,
@@ -77,6 +80,7 @@ impl<T: Drop> End<T> {
             }
         };
         let end = End {
+            list,
             chair,
             at,
             rights,
@@ -105,6 +109,7 @@ impl<T: Drop> Debtor<T> {
         ensures chair { result.chair ≡ self.chair }
     {
         let Debtor {
+            list,
             chair,
             at,
             rights,
@@ -112,6 +117,7 @@ impl<T: Drop> Debtor<T> {
             over,
         } = self;
         End {
+            list,
             chair,
             at,
             rights,
@@ -131,6 +137,7 @@ impl<T: Drop> Debtor<T> {
         ensures still { IfErr result (λ d. Tells 0 (wakes_with self) (wakes_with d)) }
     {
         let Debtor {
+            list,
             chair,
             at,
             rights,
@@ -139,6 +146,7 @@ impl<T: Drop> Debtor<T> {
         } = self;
         match busy.rest() {
             Ok(inside) => Ok(End {
+                list,
                 chair,
                 at,
                 rights,
@@ -147,6 +155,7 @@ impl<T: Drop> Debtor<T> {
                 behind: false,
             }),
             Err(busy) => Err(Debtor {
+                list,
                 chair,
                 at,
                 rights,
@@ -176,7 +185,8 @@ impl<T: Drop> Debtor<T> {
         ensures wakes { IfOk result.1
             (λ e. Tells (one_if result.0) (wakes_with self) (wakes_of e)) }
         ensures still { IfErr result.1
-            (λ d. Tells (one_if result.0) (wakes_with self) (wakes_with d)) }
+            (λ d. Tells (one_if result.0) (wakes_with self) (wakes_with d)
+            × ((wakes_with d).untold ≡ 0)) }
     {
         let mut debtor = self;
         let wakes = debtor.busy.pay_some();

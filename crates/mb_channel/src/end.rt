@@ -1,11 +1,12 @@
 //! Senders and receivers.
 ghost use Rattle.std.specs.Prelude.{◌≡◌, ◌<◌, [], true, false, is_some};
+ghost use Rattle.std.specs.Arc.{arc_value};
 ghost use Rattle.mb_channel.specs.Homes.{IsReady, view_in};
 ghost use Rattle.mb_channel.specs.Inside.{got_there, share_in, told_there};
 ghost use Rattle.mb_channel.specs.Closing.{KnowsEnd};
 
 use crate::inside::Inside;
-use crate::list::Chair;
+use crate::list::{Chair, SharedList};
 use crate::tried::Tried;
 use mb_segment::Received;
 use std::sync::Wait;
@@ -15,6 +16,7 @@ use std::time::{Clock, Instant};
 /// ended then, and the segment where it is and those behind stay.
 #[derive(Drop)]
 pub struct End<T: Drop> {
+    pub(crate) list: SharedList<T>,
     pub(crate) chair: Chair<T>,
     pub(crate) at: usize,
     /// For how many ends it counts, if that is below 2^64 - 1.
@@ -24,6 +26,7 @@ pub struct End<T: Drop> {
     pub(crate) over: bool,
     /// Whether it was told that it is behind the last segment, for ever.
     pub(crate) behind: bool,
+    ghost same: { chair.table_id ≡ (arc_value list).table.shared.table_id },
     ghost ready: { IsReady chair.me },
     ghost here: { (view_in chair).at ≡ at },
     ghost counts: { 0 < (view_in chair).rights },

@@ -5,28 +5,28 @@ ghost use Rattle.mb_channel.specs.declared.view.Knows.{Knows};
 ghost use Rattle.mb_channel.specs.Homes.{IsReady, IsWhole, Stands, past_of, view_in};
 ghost use Rattle.mb_channel.specs.Inside.{log_of_past};
 ghost use Rattle.mb_channel.specs.Rests.{IsEnding};
-ghost use Rattle.mb_channel.specs.Ends.{IsEndOf, given_to, log_of};
+ghost use Rattle.mb_channel.specs.Ends.{given_to, log_of};
 
-use crate::channel::Channel;
 use crate::end::Receiver;
 use crate::home::Homes;
-use crate::list::{Chair, List};
+use crate::list::Chair;
 use crate::rest::Ending;
-use std::sync::Wait;
+use std::sync::{Arc, Wait};
 
-impl<T: Drop> Channel<T> {
-    /// Ends the channel by its last end, to which all others were given back. It is `None` if an end was not given back.
+impl<T: Drop> Receiver<T> {
+    /// Ends the channel by its last end, to which all others were given back. It is `None` if an end was not given back,
+    /// whether it is still there or was dropped: then the receiver is gone too, and the channel never ends.
     /// `Ending::finish` then gives out what is left: with what the ends did, that is one channel's life.
-    pub fn end<R: Wait>(self, rt: &R, receiver: Receiver<T>) -> Option<Ending<T>>
-        requires channel { IsEndOf self receiver.end }
+    pub fn end<R: Wait>(self, rt: &R) -> Option<Ending<T>>
         ensures whole { IfSome result (λ e. (v : Knows T) × (hs : Seq (Home T)) × IsEnding hs e
             × IsWhole v hs × (v.inside ≡ false)
             × (map log_of_past (past_of v ∷ v.ended)
-            ≡ log_of receiver.end ∷ given_to receiver.end)) }
+            ≡ log_of self.end ∷ given_to self.end)) }
     {
-        let Receiver { end } = receiver;
-        let (chair, rights) = self.outside(rt, end);
-        let Channel { list, alloc } = self;
+        let Receiver { end } = self;
+        let (list, chair, rights) = end.outside(rt);
+        let list = Arc::try_unwrap(list).ok()?;
+        let alloc = list.alloc;
         let homes = list.end(chair, rights)?;
         Some(Ending::new(homes, alloc))
     }

@@ -1,10 +1,17 @@
 //! Samples of the list's definitions: what they admit, and what only looks right. The functions compute nothing: their
 //! contracts are the samples.
-ghost use Rattle.std.specs.Prelude.{List, ℕ, [], false, true, ◌∷◌, ◌≡◌};
-ghost use Rattle.mb_channel.specs.HomeSamples.{given_twice, last_of_two, one_take, one_visit};
-ghost use Rattle.mb_channel.specs.Homes.{Agrees, Fits, HasIssued, HasTakenBack, IsDone, IsFreed, IsNew, IsOver, IsWhole, Stands};
+ghost use Rattle.std.specs.Prelude.{List, Some, length, ℕ, [], false, true, ◌<◌, ◌++◌, ◌∷◌, ◌≡◌};
+ghost use Rattle.mb_segment.specs.SegmentSamples.{overslept, unused};
+ghost use Rattle.mb_channel.specs.Closing.{AreStates, KnowsEnd, NoneWaits};
+ghost use Rattle.mb_channel.specs.Deeds.{IsUpTo, OneMore, deed};
+ghost use Rattle.mb_channel.specs.Ends.{IsBehind, IsLater, Standing};
+ghost use Rattle.mb_channel.specs.HomeSamples.{adder, given_twice, last_of_two, one_take, one_visit, place, told_none};
+ghost use Rattle.mb_channel.specs.Homes.{Agrees, Fits, FitsEnd, HasIssued, HasTakenBack, IsDone, IsFreed, IsNew, IsOver, IsWhole, MayLeave, Stands};
 ghost use Rattle.mb_channel.specs.Homes.{Made, came_back, first_view, out_of, spent_view};
-ghost use Rattle.mb_channel.specs.LifeSamples.{one_got, one_sent, two_sent};
+ghost use Rattle.mb_channel.specs.Inside.{known_there};
+ghost use Rattle.mb_channel.specs.LifeSamples.{one_got, one_sent, position, two_sent};
+ghost use Rattle.mb_channel.specs.Told.{KeepsOrder};
+ghost use Rattle.mb_channel.specs.declared.end.End.{End};
 ghost use Rattle.mb_channel.specs.Types.{Arc, Global, Home, Homes, Knows, Pass, Segment, View};
 
 /// All segments that there ever were. Admitted: one that was freed, before those in the list. Refused: one that was
@@ -16,6 +23,27 @@ pub fn sample_standing()
         → Stands (h ∷ l.list.items) l → ⊥ }
     ensures lost { (h : Home ℕ) (l : Homes ℕ) → l.first ≡ 0
         → Stands (h ∷ l.list.items) l → ⊥ }
+{}
+
+/// The list that an end leaves. Admitted: longer by one, if the end may add it. Refused: the same if it may not, and a
+/// place that is not behind the last segment.
+pub fn sample_leaving()
+    ensures added { (v : Knows ℕ) (h : Home ℕ) → IsNew h → v.may_add ≡ true → v.orderly ≡ true
+        → length v.before ≡ v.at → MayLeave v (v.before ++ h ∷ []) }
+    ensures unasked { (v : Knows ℕ) (h : Home ℕ) → v.may_add ≡ false
+        → MayLeave v (v.before ++ h ∷ []) → ⊥ }
+    ensures elsewhere { (v : Knows ℕ) (h : Home ℕ) → (length v.before ≡ v.at → ⊥)
+        → MayLeave v (v.before ++ h ∷ []) → ⊥ }
+{}
+
+/// What an end that may add a segment says of the list. Admitted: an open list, of which no end was told that it never
+/// grows. Refused: a closed list, one that the end did not see open, and one of which an end was told so.
+pub fn sample_adding()
+    ensures open_ { FitsEnd [] 1 (adder ∷ []) adder }
+    ensures closed { FitsEnd [] 0 (adder ∷ []) adder → ⊥ }
+    ensures unseen { (v : Knows ℕ) → v.may_add ≡ true → v.is_open ≡ false
+        → FitsEnd [] 1 (v ∷ []) v → ⊥ }
+    ensures told { FitsEnd [] 1 (adder ∷ told_none ∷ []) adder → ⊥ }
 {}
 
 /// What hubs and visits say. Admitted: one visit, of which the hub knows. Refused: a visit of which the hub knows
@@ -56,4 +84,55 @@ pub fn sample_whole()
         → IsWhole first_view (h ∷ []) → ⊥ }
     ensures open_ { (h g : Home ℕ) → (IsOver h → ⊥) → IsWhole last_of_two (h ∷ g ∷ []) → ⊥ }
     ensures twice { (hs : List (Home ℕ)) → IsWhole given_twice hs → ⊥ }
+{}
+
+/// The segments at one moment. Admitted: a new segment, in which nothing waits. Refused: a state that does not keep the
+/// rule, a hub that knows less than the list, and that nothing waits where a value does.
+pub fn sample_moment()
+    ensures new { (h : Home ℕ) → IsNew h → AreStates (λ _. unused 0) (h ∷ []) }
+    ensures unkept { (h : Home ℕ) → AreStates (λ _. overslept) (h ∷ []) → ⊥ }
+    ensures knows_less { (h : Home ℕ) → IsDone h → AreStates (λ _. unused 0) (h ∷ []) → ⊥ }
+    ensures none { (h : Home ℕ) → NoneWaits (λ _. unused 0) (h ∷ []) }
+    ensures waits { (h : Home ℕ) → NoneWaits (λ _. overslept) (h ∷ []) → ⊥ }
+{
+    mb_segment::samples::sample_states();
+}
+
+/// Places. Admitted: a place of an earlier segment lies before one of a later segment, and a call may have the place up to
+/// which its end knew. Refused: the other way round, and a call at a place of which its end knew.
+pub fn sample_places()
+    ensures earlier { IsUpTo (place 0 9) (place 1 0) }
+    ensures later { IsUpTo (place 1 0) (place 0 9) → ⊥ }
+    ensures beyond { IsUpTo (place 1 4) (place 1 3) → ⊥ }
+    ensures next { OneMore 10 (place 1 3) (place 1 4) [] (deed 1 (position 3 10) ∷ []) }
+    ensures known { OneMore 10 (place 1 4) (place 1 4) [] (deed 1 (position 3 10) ∷ []) → ⊥ }
+{}
+
+/// The place of a call, in the one order. Admitted: the first of two calls in segment 0. Refused: a call in a segment
+/// where nothing was sent.
+pub fn sample_order()
+    ensures first { (h g : Home ℕ) → came_back h ≡ one_got ∷ two_sent ∷ []
+        → KeepsOrder (h ∷ g ∷ []) (deed 0 (position 0 10)) }
+    ensures unsent { (h g : Home ℕ) → came_back h ≡ []
+        → KeepsOrder (h ∷ g ∷ []) (deed 0 (position 0 10)) → ⊥ }
+{}
+
+/// An end, later. Admitted: the same end. Refused: one that went back, and one that forgot what it knew.
+pub fn sample_later()
+    ensures same { (v : Standing ℕ) → IsLater v v }
+    ensures back { (v w : Standing ℕ) → w.chair.me.0.at < v.chair.me.0.at → IsLater v w → ⊥ }
+    ensures forgot { (v w : Standing ℕ) → v.chair.me.0.at ≡ w.chair.me.0.at
+        → known_there false w.pass < known_there false v.pass → IsLater v w → ⊥ }
+    ensures forgot_takes { (v w : Standing ℕ) → v.chair.me.0.at ≡ w.chair.me.0.at
+        → known_there true w.pass < known_there true v.pass → IsLater v w → ⊥ }
+{}
+
+/// An end behind the last segment. Admitted: one that was told so, of a closed list. Refused: one that is before the last
+/// segment, one that saw a list that is open, with senders, and an end that was not told.
+pub fn sample_behind()
+    ensures closed { KnowsEnd (record (first_view {T = ℕ}) { shut = true; last = Some 0 }) }
+    ensures before { KnowsEnd (record (first_view {T = ℕ}) { shut = true; last = Some 1 }) → ⊥ }
+    ensures open_ { KnowsEnd (record (first_view {T = ℕ}) { last = Some 0 }) → ⊥ }
+    ensures told { (e : End ℕ) → e.behind ≡ true → IsBehind e }
+    ensures untold { (e : End ℕ) → e.behind ≡ false → IsBehind e → ⊥ }
 {}

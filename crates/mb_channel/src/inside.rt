@@ -112,6 +112,7 @@ impl<T: Drop> Inside<T> {
     }
 
     /// Tries to receive a value here. `None` only if none can come any more.
+    #[inline(always)]
     pub(crate) fn try_receive(self) -> (Inside<T>, Option<Tried<T>>)
         ensures answer { let v = work_in self in let w = work_in result.0 in IfSome result.1
             (λ t. OfTried t (λ x. HasGot x v w)

@@ -6,12 +6,15 @@ ghost use Rattle.atomic_table.specs.Table.{Step};
 ghost use Rattle.mb_channel.specs.ChannelTheorem.{EachMoment, End, History, Moment, Segment, WholeLife, life};
 ghost use Rattle.mb_channel.specs.Stays.{AreStays, Told, life_of};
 ghost use Rattle.mb_channel.specs.Types.{Home, Homes, Knows};
-ghost use Rattle.mb_channel.specs.Closing.{IsClosedOff, IsFinished, ListState};
+ghost use Rattle.mb_segment.specs.Vocabulary.{FindsEmpty, SegmentState};
+ghost use Rattle.mb_channel.specs.Closing.{AreStates, IsClosedOff, IsFinished, ListState, NoneWaits};
 ghost use Rattle.mb_channel.specs.Homes.{AllHomes, At, IsShut, IsWhole, Keeps, Sat, sends, total};
 ghost use Rattle.mb_channel.specs.Lives.{HaveEnded, HaveLived, all_left, end_in};
 ghost use Rattle.mb_channel.specs.Segments.{AreLogs, EachKeeps, InTurn, KeepsEnd, TakenInTurn};
 ghost use Rattle.mb_channel.specs.Tallies.{sees_senders};
-ghost use Rattle.mb_channel.specs.Told.{AllTell};
+ghost use Rattle.mb_channel.specs.Deeds.{Deed, IsUpTo, OneMore};
+ghost use Rattle.mb_channel.specs.Told.{AllTell, KeepsOrder, index};
+ghost use Rattle.mb_channel.specs.declared.place.Place.{Place};
 
 /// At each moment: if each segment keeps its own rule, and they follow each other in turn, the channel's points hold.
 pub fn moments_keep_the_theorem<T>()
@@ -48,6 +51,15 @@ pub fn lives_have_the_logs<T: Drop>()
         → IsWhole v hs → HaveEnded hs ls → AllTell v hs }
 {}
 
+/// Of two calls: let one end know up to a place after its call, and another end know as far before its own. Then the place
+/// of the first call comes before that of the second in the one order.
+pub fn told_comes_later<T: Drop>()
+    ensures later { (x y : T) (k l m n : Place) (bs cs ds es : List (Deed T)) (hs : List (Home T))
+        (a : OneMore x k l bs cs) (b : OneMore y m n ds es) → IsUpTo l m
+        → KeepsOrder hs (record { place = a.place; value = x })
+        → index hs a.place < index hs b.place }
+{}
+
 /// Of the moment at which an end counts that it found itself behind the last segment, as one that may receive there:
 /// nothing waits in any segment.
 pub fn none_is_true<T: Drop>()
@@ -58,9 +70,21 @@ pub fn none_is_true<T: Drop>()
     mb_segment::laws::over_is_true::<T>();
 }
 
-/// Of each moment: where an end was told that there are so many segments, there are, and no more will come, for the list
-/// is closed or no sender is left. Nothing can be sent in any of them. If the end is a receiver behind the last, nothing
-/// waits there either. Each end stands behind segments that are over, and behind a receiver nothing waits.
+/// Of the moment at which a pass counts that it found nothing, in the segment where a receiver is: nothing waits in any
+/// segment of the channel.
+pub fn empty_is_true<T: Drop>()
+    ensures empty { (c : ListState T) (k : Keeps c) (id : ℕ) (v : Knows T)
+        (now : ℕ → SegmentState T)
+        → get_elem? c.views id ≡ some v → v.inside ≡ true → v.takes ≡ true
+        → AreStates now k.homes → FindsEmpty (now v.at) → NoneWaits now k.homes }
+{
+    mb_segment::laws::empty_is_true::<T>();
+    mb_segment::laws::over_is_true::<T>();
+}
+
+/// Of each moment: where an end was told that there are so many segments, there are so many. The list is closed, or no
+/// sender is left. Nothing can be sent in any of them. If the end is a receiver behind the last, nothing waits there
+/// either. Each end stands behind segments that are over, and behind a receiver nothing waits.
 pub fn closed_is_true<T: Drop>()
     ensures last { (c : ListState T) (k : Keeps c) (id n : ℕ) (v : Knows T)
         → get_elem? c.views id ≡ some v → v.last ≡ Some n

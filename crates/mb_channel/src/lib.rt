@@ -1,14 +1,16 @@
 //! A channel for any number of senders and receivers, over a list of segments.
 //!
-//! - [`Channel::new`] gives a channel, a sender and a receiver. [`Channel::another_sender`] and
-//!   [`Channel::another_receiver`] make further ends, which can be moved to threads.
-//! - [`Channel::send`] and [`Channel::receive`] wait, and [`Channel::receive_by`] waits until a deadline.
-//!   [`Channel::try_receive`] never waits.
-//! - [`Channel::close`] closes the channel. So does the end of the last sender.
-//! - [`Channel::try_send`] and [`Channel::poll_receive`] never wait either, and leave it to the caller to wake and to
+//! - [`unbounded`] gives a sender and a receiver of a new channel. [`Sender::another`] and [`Receiver::another`] make
+//!   further ends. Ends can be moved to threads.
+//! - [`Sender::send`] and [`Receiver::receive`] wait, and [`Receiver::receive_by`] waits until a deadline.
+//!   [`Receiver::try_receive`] never waits.
+//! - [`Sender::close`] and [`Receiver::close`] close the channel. So does the end of the last sender.
+//! - [`Sender::try_send`] and [`Receiver::poll_receive`] never wait either, and leave it to the caller to wake and to
 //!   sleep. Whoever owes a wake is [`Owing`] or [`Leaving`], and whoever sleeps is [`Asleep`].
-//! - [`Channel::give_sender`] and [`Channel::give_receiver`] take an end back. [`Channel::end`] ends the channel by its
-//!   last one.
+//! - [`Sender::known`] and [`Receiver::known`] say how far an end knows. [`Sender::learn`] and [`Receiver::learn`] tell
+//!   that to another end. If they answer `true`, its later calls stand behind that [`Place`].
+//! - [`Receiver::give_sender`] and [`Receiver::give_receiver`] take an end back. [`Receiver::end`] ends the channel by
+//!   its last one.
 //!
 //! [`laws`] has the theorem of a channel, over all histories.
 #![tactic(auto)]
@@ -21,10 +23,12 @@ mod channel;
 mod closing_tests;
 mod cutting;
 mod debtor;
+mod departing;
 mod end;
 mod ending;
 mod giving;
 mod heard;
+mod held;
 mod home;
 pub mod home_samples;
 mod inside;
@@ -34,6 +38,7 @@ mod listening;
 mod making;
 mod parties;
 mod passes;
+mod place;
 mod polls;
 mod receives;
 mod rest;
@@ -43,6 +48,9 @@ mod sends;
 #[cfg(test)]
 mod sleep_tests;
 mod stuck;
+mod telling;
+#[cfg(test)]
+mod telling_tests;
 #[cfg(test)]
 mod tests;
 mod tried;
@@ -52,10 +60,14 @@ mod visits;
 #[cfg(test)]
 mod way_tests;
 
-pub use answers::{Appended, Came, Retired};
-pub use channel::{Channel, Refused};
+pub use answers::{Came, Retired};
+pub use channel::Refused;
+pub use departing::{Cutter, Departing};
 pub use end::{Receiver, Sender};
+pub use held::{Held, Stored};
 pub use home::{Home, Homes, Shared};
+pub use making::unbounded;
+pub use place::Place;
 pub use polls::{Asleep, Leaving, Polled};
 pub use rest::{Ending, Rest};
 pub use sends::NotSent;

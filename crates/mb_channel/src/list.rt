@@ -1,26 +1,29 @@
 //! The list of segments: its lock, which is tried and never waited for, and its ends.
-ghost use Rattle.std.specs.Prelude.{ℕ, List as Seq, ◌≡◌, ◌≢◌, ◌+◌, ◌<◌, ◌≤◌, ◌∷◌, [], true, false, IfOk, IfSome, OnErr};
-ghost use Rattle.mb_channel.specs.Answers.{OfAppended};
+ghost use Rattle.std.specs.Prelude.{ℕ, List as Seq, length, ◌≡◌, ◌≢◌, ◌+◌, ◌<◌, ◌≤◌, ◌∷◌, [], true, false, IfOk, IfSome, OnErr};
 ghost use Rattle.mb_channel.specs.Homes.{Finds, HoldsHomes, IsFirst, IsReady, IsWhole, Longer, MayGive, MayLeave, Stands, both};
-ghost use Rattle.mb_channel.specs.Homes.{counts_more, locked, splits_off, unlocked, view_in};
-ghost use Rattle.mb_channel.specs.Tallies.{saw_closed};
+ghost use Rattle.mb_channel.specs.Homes.{locked, splits_off, unlocked, view_in};
+ghost use Rattle.mb_channel.specs.Tallies.{counts_more};
 ghost use Rattle.mb_channel.specs.declared.home.Home.{Home};
 ghost use Rattle.mb_channel.specs.declared.home.Homes.{Homes};
 
-use crate::answers::Appended;
 use crate::home::Homes;
 use crate::rule::{Change, Counts, Ends, GetsNumber, GivesLock, ListRule, Side, Splits, TakesLock};
 use crate::view::Knows;
 use atomic_table::{Seat, Table};
 use std::alloc::{AllocError, Global};
 use std::marker::Brand;
+use std::sync::Arc;
 
 /// What an end steps with on the list. It has no bytes.
 pub type Chair<T> = Seat<Homes<T>, Knows<T>>;
 
+/// The list of a channel. It lives as long as one of its ends, which share it.
+pub type SharedList<T> = Arc<List<T>, Global>;
+
 #[derive(Drop)]
 pub struct List<T: Drop> {
     pub(crate) table: Table<Homes<T>, Knows<T>, (), ListRule, Global>,
+    pub(crate) alloc: Global,
     ghost shape: { (table.shared.table_id.words ≡ 5) × (table.shared.table_id.slots ≡ 1) },
 }
 
@@ -63,7 +66,7 @@ impl<T: Drop> List<T> {
         self.table.shared.store::<GivesLock<F>>(chair, 0, 0);
     }
 
-    /// Gives the lock back. The list is as it was found, or a sender added a segment to one that is not closed.
+    /// Gives the lock back. The list is as it was found, or an end that may do so added a segment.
     pub(crate) fn unlock(&self, chair: &mut Chair<T>)
         requires list { chair.old.table_id ≡ self.now.table.shared.table_id }
         requires held { ((view_in chair.old).live ≡ true) × ((view_in chair.old).holds ≡ true) }
@@ -74,61 +77,21 @@ impl<T: Drop> List<T> {
         self.give::<Brand>(chair);
     }
 
-    /// Adds a segment of this many positions at this place, if there is none yet.
-    fn add_home(
-        &self,
-        chair: &mut Chair<T>,
-        at: usize,
-        alloc: Global,
-        size: u32,
-    ) -> Result<(), AllocError>
+    /// Adds a segment at this place, which is behind the last one. The error is [`AllocError`] if the allocator refuses
+    /// the memory: then nothing has changed.
+    pub(crate) fn add_home(&self, chair: &mut Chair<T>, at: usize) -> Result<(), AllocError>
         requires list { chair.old.table_id ≡ self.now.table.shared.table_id }
         requires homes { HoldsHomes chair.old.me (λ hs. hs ≡ (view_in chair.old).before) }
+        requires last { length (view_in chair.old).before ≡ at }
         ensures list { (chair.new.table_id ≡ chair.old.table_id) × (chair.new.id ≡ chair.old.id) }
         ensures view { view_in chair.new ≡ view_in chair.old }
-        ensures homes { HoldsHomes chair.new.me (Longer at (view_in chair.old).before) }
+        ensures added { IfOk result (λ _.
+            HoldsHomes chair.new.me (Longer at (view_in chair.old).before)) }
+        ensures refused { OnErr result
+            (HoldsHomes chair.new.me (λ hs. hs ≡ (view_in chair.old).before)) }
     {
         let homes = chair.slot_mut(&self.table.shared, 0);
-        if at < homes.first {
-            Ok(())
-        } else if at - homes.first == homes.list.len() {
-            homes.append(alloc, size)
-        } else {
-            Ok(())
-        }
-    }
-
-    /// A sender adds a segment of this many positions at this place, if there is none yet. It left each segment before
-    /// only once nothing could be sent there. The error is [`AllocError`] if the allocator refuses the memory: then
-    /// nothing has changed.
-    pub fn append(
-        &self,
-        chair: &mut Chair<T>,
-        at: usize,
-        alloc: Global,
-        size: u32,
-    ) -> Result<Appended, AllocError>
-        requires list { chair.old.table_id ≡ self.now.table.shared.table_id }
-        requires ready { IsReady chair.old.me }
-        requires sender { 0 < (view_in chair.old).sends }
-        requires here { (view_in chair.old).at ≡ at }
-        requires orderly { (view_in chair.old).orderly ≡ true }
-        ensures list { (chair.new.table_id ≡ chair.old.table_id) × (chair.new.id ≡ chair.old.id) }
-        ensures answer { IfOk result (λ a. OfAppended a (chair.new.me ≡ chair.old.me)
-            (chair.new.me ≡ (saw_closed (view_in chair.old), []))) }
-        ensures refused { OnErr result (chair.new.me ≡ chair.old.me) }
-    {
-        if !self.try_lock(chair) {
-            return Ok(Appended::Locked);
-        }
-        if self.sees_closed(chair) {
-            self.unlock(chair);
-            return Ok(Appended::Closed);
-        }
-        let added = self.add_home(chair, at, alloc, size);
-        self.unlock(chair);
-        added?;
-        Ok(Appended::There)
+        homes.append(self.alloc, size_at(at))
     }
 
     /// A list with no segment, and its first chair, which counts for a sender and a receiver. The error is [`AllocError`]
@@ -143,7 +106,7 @@ impl<T: Drop> List<T> {
         let homes = no_homes(alloc)?;
         match Table::new(alloc, &[0, 1, 1, 1, 1], homes, &()) {
             Ok((table, mut chair)) => {
-                let list = List { table };
+                let list = List { table, alloc };
                 list.number(&mut chair);
                 Ok((list, chair))
             }
@@ -217,7 +180,7 @@ impl<T: Drop> List<T> {
         ensures whole { IfSome result (λ l. (hs : Seq (Home T)) × Stands hs l
             × IsWhole (view_in chair) hs) }
     {
-        let List { table } = self;
+        let List { table, alloc: _ } = self;
         let mut closed = table.close_with(chair);
         let lock = closed.word(0);
         let ends = closed.word(1);
@@ -229,6 +192,11 @@ impl<T: Drop> List<T> {
             None
         }
     }
+}
+
+/// How many positions the segment at this place has.
+fn size_at(at: usize) -> u32 {
+    if at == 0 { 64 } else { 1024 }
 }
 
 fn no_homes<T: Drop>(alloc: Global) -> Result<Vec<Homes<T>>, AllocError>

@@ -24,38 +24,24 @@ impl<T: Drop> End<T> {
         ensures wakes { IfOk result (λ r. Tells 0 (wakes_of self) (wakes_with r.0)) }
         ensures inside { IfOk result (λ _. is_some self.inside ≡ true) }
     {
+        if self.over || self.inside.is_none() {
+            return Err(self);
+        }
         let End {
+            list,
             chair,
             at,
             rights,
             inside,
-            over,
-            behind,
+            over: _,
+            behind: _,
         } = self;
-        if over {
-            return Err(End {
-                chair,
-                at,
-                rights,
-                inside,
-                over,
-                behind,
-            });
-        }
-        let Some(inside) = inside else {
-            return Err(End {
-                chair,
-                at,
-                rights,
-                inside: None,
-                over,
-                behind,
-            });
-        };
+        let Some(inside) = inside else { unreachable!() };
         let (busy, heard) = inside.poll();
         let over = matches!(&heard, Heard::Over);
         Ok((
             Debtor {
+                list,
                 chair,
                 at,
                 rights,
@@ -76,24 +62,9 @@ impl<T: Drop> Debtor<T> {
         ensures chair { result.0.chair ≡ self.chair }
         ensures wakes { Tells 0 (wakes_with self) (wakes_with result.0) }
     {
-        let Debtor {
-            chair,
-            at,
-            rights,
-            mut busy,
-            over,
-        } = self;
-        let heard = busy.wake_up();
-        let over = over || matches!(&heard, Heard::Over);
-        (
-            Debtor {
-                chair,
-                at,
-                rights,
-                busy,
-                over,
-            },
-            heard,
-        )
+        let mut debtor = self;
+        let heard = debtor.busy.wake_up();
+        debtor.over = debtor.over || matches!(&heard, Heard::Over);
+        (debtor, heard)
     }
 }

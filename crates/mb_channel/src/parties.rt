@@ -3,7 +3,7 @@ ghost use Rattle.std.specs.Prelude.{◌≡◌, ◌≢◌, ◌+◌, ◌<◌, ◌�
 ghost use Rattle.mb_channel.specs.Answers.{OfRetired};
 ghost use Rattle.mb_channel.specs.Homes.{IsReady, view_in};
 ghost use Rattle.mb_channel.specs.Tallies.{hires_receiver, hires_sender, retires_receiver, retires_sender};
-ghost use Rattle.mb_channel.specs.Tallies.{IsLast, found_none, saw_closed, saw_none, saw_open};
+ghost use Rattle.mb_channel.specs.Tallies.{IsLast, saw_closed, saw_none, saw_open, saw_sender};
 
 use crate::answers::Retired;
 use crate::list::{Chair, List};
@@ -96,7 +96,7 @@ impl<T: Drop> List<T> {
         ensures held { chair.new.me.1 ≡ chair.old.me.1 }
         ensures none { result ≡ true → (view_in chair.new ≡ saw_none (view_in chair.old))
             × ((view_in chair.old).sends ≡ 0) }
-        ensures some { result ≡ false → view_in chair.new ≡ found_none (view_in chair.old) }
+        ensures some { result ≡ false → view_in chair.new ≡ saw_sender (view_in chair.old) }
     {
         self.table.shared.load::<SeesSenders>(chair, 2) == 0
     }
@@ -121,7 +121,7 @@ impl<T: Drop> List<T> {
         ensures list { (chair.new.table_id ≡ chair.old.table_id) × (chair.new.id ≡ chair.old.id) }
         ensures held { chair.new.me.1 ≡ chair.old.me.1 }
         ensures closed { view_in chair.new
-            ≡ record (view_in chair.old) { may_add = false; shut = true } }
+            ≡ record (view_in chair.old) { is_open = false; may_add = false; shut = true } }
     {
         self.table.shared.store::<Closes>(chair, 4, 0);
     }

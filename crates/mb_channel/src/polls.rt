@@ -4,7 +4,7 @@ ghost use Rattle.mb_channel.specs.Homes.{view_in};
 ghost use Rattle.mb_channel.specs.Work.{IsAwake, Sleeps};
 
 use crate::busy::Busy;
-use crate::channel::{Channel, Refused, TRIES};
+use crate::channel::{Refused, TRIES};
 use crate::debtor::Debtor;
 use crate::end::Receiver;
 use crate::heard::Heard;
@@ -39,45 +39,40 @@ pub enum Polled<T: Drop> {
     /// No value is there. Let the thread sleep ([`Asleep::sleep`]), and then call [`Asleep::wake_up`].
     Sleeps(Asleep<T>),
     /// Nothing is known: a value is being sent, another end was first, the lock is taken, or the receiver was woken for a
-    /// value that another took, or has still to come to the next segment. Yield, and try again.
+    /// value that another took, or has still to come to the next segment, for which there may be no memory. Yield, and try
+    /// again.
     Again(Receiver<T>),
     /// The same, and something is owed.
     Owes(Leaving<T>),
-    /// Nothing waited: in this call, the receiver looked behind the last segment. It does not sleep. Yield, and try again.
-    Empty(Receiver<T>),
     /// [`Refused::Closed`]: no value can come any more, for ever. Or ends cannot be counted.
     Refused(Receiver<T>, Refused),
 }
 
-impl<T: Drop> Channel<T> {
+impl<T: Drop> Receiver<T> {
     ghost use Rattle.mb_channel.specs.Answers.{IfClosed};
-    ghost use Rattle.mb_channel.specs.Ends.{IsBehind, IsEndOf, stand_of};
-    ghost use Rattle.mb_channel.specs.Polls.{OfPolled, TellsClosed};
-    ghost use Rattle.mb_channel.specs.Receives.{FoundNone, SawEmpty};
+    ghost use Rattle.mb_channel.specs.Ends.{IsBehind, stand_of};
+    ghost use Rattle.mb_channel.specs.Polls.{OfPolled, PollClosed};
+    ghost use Rattle.mb_channel.specs.Receives.{SawEmpty};
     ghost use Rattle.mb_channel.specs.Standing.{stand_with};
     ghost use Rattle.mb_channel.specs.Wakes.{Tells, after_polled, wakes_of};
 
     /// Tries to receive the next value. If none is there, the receiver enters the list of those that wait, and looks
-    /// again. It makes a few accesses, and never waits itself.
-    pub fn poll_receive(&self, receiver: Receiver<T>) -> Polled<T>
-        requires channel { IsEndOf self.now receiver.end }
-        ensures answer { let v = stand_of receiver.end in OfPolled result v
+    /// again. For that it adds the next segment, if there is none yet. It makes a few accesses, and never waits itself.
+    pub fn poll_receive(self) -> Polled<T>
+        ensures answer { let v = stand_of self.end in OfPolled result v
             (λ a. SawEmpty v (stand_with a.debtor))
-            (λ r. FoundNone v (stand_of r.end))
             (λ r why. IfClosed why (IsBehind r.end)) }
-        ensures wakes { Tells 0 (wakes_of receiver.end) (after_polled result) }
-        ensures still { IsBehind receiver.end → TellsClosed result }
+        ensures wakes { Tells 0 (wakes_of self.end) (after_polled result) }
+        ensures still { IsBehind self.end → PollClosed result }
     {
-        let Receiver { mut end } = receiver;
+        let Receiver { mut end } = self;
         for _ in 0..TRIES {
             match end.poll() {
                 Ok((debtor, heard)) => return debtor.answer(heard),
                 Err(back) => end = back,
             }
-            match self.go_on(&mut end, true) {
-                Ok(true) => {}
-                Ok(false) => return Polled::Empty(Receiver { end }),
-                Err(why) => return Polled::Refused(Receiver { end }, why),
+            if let Err(why) = end.go_on(true, true) {
+                return Polled::Refused(Receiver { end }, why);
             }
         }
         Polled::Again(Receiver { end })
@@ -112,7 +107,7 @@ impl<T: Drop> Asleep<T> {
     /// there. Then the answer is [`Polled::Owes`], and the receiver no longer waits.
     pub fn wake_up(self) -> Polled<T>
         ensures answer { OfPolled result (stand_with self.debtor)
-            (λ a. Unit {0}) (λ r. ⊥) (λ r why. ⊥) }
+            (λ a. Unit {0}) (λ r why. ⊥) }
         ensures wakes { Tells 0 (wakes_with self.debtor) (after_polled result) }
     {
         let Asleep { debtor } = self;
@@ -163,7 +158,8 @@ impl<T: Drop> Leaving<T> {
         ensures wakes { IfOk result.1
             (λ r. Tells (one_if result.0) (wakes_with self.debtor) (wakes_of r.end)) }
         ensures still { IfErr result.1
-            (λ l. Tells (one_if result.0) (wakes_with self.debtor) (wakes_with l.debtor)) }
+            (λ l. Tells (one_if result.0) (wakes_with self.debtor) (wakes_with l.debtor)
+            × ((wakes_with l.debtor).untold ≡ 0)) }
     {
         let Leaving { debtor } = self;
         let (wakes, rest) = debtor.pay_some();
@@ -188,7 +184,7 @@ impl<T: Drop> Debtor<T> {
         requires receives { 0 < (view_in self.chair).receives }
         requires looked { (v : Standing T) × OfLook heard v self }
         ensures answer { (v : Standing T) → OfLook heard v self → OfPolled result v
-            (λ a. (a.debtor ≡ self) × (heard ≡ looked.Asleep)) (λ r. ⊥) (λ r why. ⊥) }
+            (λ a. (a.debtor ≡ self) × (heard ≡ looked.Asleep)) (λ r why. ⊥) }
         ensures wakes { Tells 0 (wakes_with self) (after_polled result) }
     {
         match heard {
@@ -209,7 +205,7 @@ impl<T: Drop> Debtor<T> {
         requires receives { 0 < (view_in self.chair).receives }
         requires awake { IsAwake self.busy }
         ensures answer { (v : Standing T) → NoMore v (stand_with self) → OfPolled result v
-            (λ a. ⊥) (λ r. ⊥) (λ r why. ⊥) }
+            (λ a. ⊥) (λ r why. ⊥) }
         ensures wakes { Tells 0 (wakes_with self) (after_polled result) }
     {
         match self.rest() {

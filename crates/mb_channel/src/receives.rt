@@ -1,58 +1,57 @@
 //! The calls that receive.
-ghost use Rattle.std.specs.Prelude.{◌≡◌, ◌⊎◌, ◌++◌, ◌∷◌, [], Err, IfErr, IfNone, IfOk, IfSome, OnErr};
+ghost use Rattle.std.specs.Prelude.{◌≡◌, ◌⊎◌, Err, IfErr, IfNone, IfOk, IfSome, OnErr};
 ghost use Rattle.mb_channel.specs.declared.channel.Refused.TheVariants.{Closed};
 ghost use Rattle.mb_channel.specs.Answers.{IfClosed};
-ghost use Rattle.mb_channel.specs.Ends.{IsBehind, IsEndOf, IsOver, IsSame, got_by, sent_by, stand_of};
+ghost use Rattle.mb_channel.specs.Ends.{IsBehind, IsOver, IsSame, got_by, sent_by, stand_of};
 ghost use Rattle.mb_channel.specs.Receives.{FoundNone, OfTried, SawEmpty};
+ghost use Rattle.mb_channel.specs.Standing.{OneGot};
 ghost use Rattle.mb_channel.specs.Wakes.{Tells, wakes_of};
 
-use crate::channel::{Channel, Refused, TRIES};
+use crate::channel::{Refused, TRIES};
 use crate::end::Receiver;
 use crate::tried::Tried;
 use mb_segment::Received;
 use std::sync::Wait;
 use std::time::{Clock, Instant};
 
-impl<T: Drop> Channel<T> {
+impl<T: Drop> Receiver<T> {
     /// Receives the next value, and sleeps until there is one. [`Refused::Closed`] is told only behind the last segment,
     /// and then for ever: nothing waits in the channel, and nothing can be sent.
     #[inline(always)]
-    pub fn receive<R: Wait>(&self, rt: &R, receiver: &mut Receiver<T>) -> Result<T, Refused>
-        requires channel { IsEndOf self.now receiver.old.end }
-        ensures end { IsSame receiver.old.end receiver.new.end }
-        ensures got { IfOk result (λ x. got_by receiver.new.end
-            ≡ got_by receiver.old.end ++ x ∷ []) }
-        ensures none { OnErr result (got_by receiver.new.end ≡ got_by receiver.old.end) }
-        ensures closed { IfErr result (λ why. IfClosed why (IsBehind receiver.new.end)) }
-        ensures still { IsBehind receiver.old.end → result ≡ Err Closed }
-        ensures sent { sent_by receiver.new.end ≡ sent_by receiver.old.end }
+    pub fn receive<R: Wait>(&mut self, rt: &R) -> Result<T, Refused>
+        ensures end { IsSame self.old.end self.new.end }
+        ensures got { IfOk result
+            (λ x. OneGot x (stand_of self.old.end) (stand_of self.new.end)) }
+        ensures none { OnErr result (got_by self.new.end ≡ got_by self.old.end) }
+        ensures closed { IfErr result (λ why. IfClosed why (IsBehind self.new.end)) }
+        ensures still { IsBehind self.old.end → result ≡ Err Closed }
+        ensures sent { sent_by self.new.end ≡ sent_by self.old.end }
     {
-        match receiver.end.receive(rt) {
+        match self.end.receive(rt) {
             Some(value) => Ok(value),
-            None => self.receive_further(rt, receiver),
+            None => self.receive_further(rt),
         }
     }
 
     /// The same from the next segment on.
     #[cold]
     #[inline(never)]
-    fn receive_further<R: Wait>(&self, rt: &R, receiver: &mut Receiver<T>) -> Result<T, Refused>
-        requires channel { IsEndOf self.now receiver.old.end }
-        requires over { IsOver receiver.old.end }
-        ensures end { IsSame receiver.old.end receiver.new.end }
-        ensures got { IfOk result (λ x. got_by receiver.new.end
-            ≡ got_by receiver.old.end ++ x ∷ []) }
-        ensures none { OnErr result (got_by receiver.new.end ≡ got_by receiver.old.end) }
-        ensures closed { IfErr result (λ why. IfClosed why (IsBehind receiver.new.end)) }
-        ensures still { IsBehind receiver.old.end → result ≡ Err Closed }
-        ensures sent { sent_by receiver.new.end ≡ sent_by receiver.old.end }
+    fn receive_further<R: Wait>(&mut self, rt: &R) -> Result<T, Refused>
+        requires over { IsOver self.old.end }
+        ensures end { IsSame self.old.end self.new.end }
+        ensures got { IfOk result
+            (λ x. OneGot x (stand_of self.old.end) (stand_of self.new.end)) }
+        ensures none { OnErr result (got_by self.new.end ≡ got_by self.old.end) }
+        ensures closed { IfErr result (λ why. IfClosed why (IsBehind self.new.end)) }
+        ensures still { IsBehind self.old.end → result ≡ Err Closed }
+        ensures sent { sent_by self.new.end ≡ sent_by self.old.end }
     {
         let mut stuck = 0;
         for _ in rt.forever() {
-            let place = receiver.end.place();
-            self.go_on(&mut receiver.end, true)?;
-            stuck = receiver.end.pause_if_at(place, stuck);
-            if let Some(value) = receiver.end.receive(rt) {
+            let place = self.end.place();
+            self.end.go_on(true, true)?;
+            stuck = self.end.pause_if_at(place, stuck);
+            if let Some(value) = self.end.receive(rt) {
                 return Ok(value);
             }
         }
@@ -63,62 +62,59 @@ impl<T: Drop> Channel<T> {
     /// had sent in its segment, or had seen there. Or the end was behind the last segment, and nothing waited. It goes on
     /// past the deadline while a value is being sent, or the lock is taken.
     pub fn receive_by<R: Wait + Clock>(
-        &self,
+        &mut self,
         rt: &R,
-        receiver: &mut Receiver<T>,
         deadline: Instant,
     ) -> Result<Option<T>, Refused>
-        requires channel { IsEndOf self.now receiver.old.end }
-        ensures end { IsSame receiver.old.end receiver.new.end }
-        ensures got { IfOk result (λ o. IfSome o (λ x. got_by receiver.new.end
-            ≡ got_by receiver.old.end ++ x ∷ [])) }
+        ensures end { IsSame self.old.end self.new.end }
+        ensures got { IfOk result (λ o. IfSome o
+            (λ x. OneGot x (stand_of self.old.end) (stand_of self.new.end))) }
         ensures late { IfOk result (λ o. IfNone o
-            ((SawEmpty (stand_of receiver.old.end) (stand_of receiver.new.end)
-            ⊎ FoundNone (stand_of receiver.old.end) (stand_of receiver.new.end))
-            × (got_by receiver.new.end ≡ got_by receiver.old.end))) }
-        ensures none { OnErr result (got_by receiver.new.end ≡ got_by receiver.old.end) }
-        ensures closed { IfErr result (λ why. IfClosed why (IsBehind receiver.new.end)) }
-        ensures still { IsBehind receiver.old.end → result ≡ Err Closed }
-        ensures sent { sent_by receiver.new.end ≡ sent_by receiver.old.end }
+            ((SawEmpty (stand_of self.old.end) (stand_of self.new.end)
+            ⊎ FoundNone (stand_of self.old.end) (stand_of self.new.end))
+            × (got_by self.new.end ≡ got_by self.old.end))) }
+        ensures none { OnErr result (got_by self.new.end ≡ got_by self.old.end) }
+        ensures closed { IfErr result (λ why. IfClosed why (IsBehind self.new.end)) }
+        ensures still { IsBehind self.old.end → result ≡ Err Closed }
+        ensures sent { sent_by self.new.end ≡ sent_by self.old.end }
     {
         let mut stuck = 0;
         for _ in rt.forever() {
-            match receiver.end.receive_by(rt, deadline) {
+            match self.end.receive_by(rt, deadline) {
                 Received::Value(value) => return Ok(Some(value)),
                 Received::TimedOut => return Ok(None),
                 Received::Over => {}
             }
-            let place = receiver.end.place();
-            let there = self.go_on(&mut receiver.end, true)?;
+            let place = self.end.place();
+            let there = self.end.go_on(true, true)?;
             if !there && is_past(rt, deadline) {
                 return Ok(None);
             }
-            stuck = receiver.end.pause_if_at(place, stuck);
+            stuck = self.end.pause_if_at(place, stuck);
         }
         unreachable!()
     }
 
     /// The same without waiting: a few tries.
-    pub fn try_receive(&self, receiver: &mut Receiver<T>) -> Result<Tried<T>, Refused>
-        requires channel { IsEndOf self.now receiver.old.end }
-        ensures end { IsSame receiver.old.end receiver.new.end }
+    pub fn try_receive(&mut self) -> Result<Tried<T>, Refused>
+        ensures end { IsSame self.old.end self.new.end }
         ensures answer { IfOk result (λ t. OfTried t
-            (λ x. got_by receiver.new.end ≡ got_by receiver.old.end ++ x ∷ [])
-            ((SawEmpty (stand_of receiver.old.end) (stand_of receiver.new.end)
-            ⊎ FoundNone (stand_of receiver.old.end) (stand_of receiver.new.end))
-            × (got_by receiver.new.end ≡ got_by receiver.old.end))
-            (got_by receiver.new.end ≡ got_by receiver.old.end)) }
-        ensures none { OnErr result (got_by receiver.new.end ≡ got_by receiver.old.end) }
-        ensures closed { IfErr result (λ why. IfClosed why (IsBehind receiver.new.end)) }
-        ensures still { IsBehind receiver.old.end → result ≡ Err Closed }
-        ensures sent { sent_by receiver.new.end ≡ sent_by receiver.old.end }
-        ensures wakes { Tells 0 (wakes_of receiver.old.end) (wakes_of receiver.new.end) }
+            (λ x. OneGot x (stand_of self.old.end) (stand_of self.new.end))
+            ((SawEmpty (stand_of self.old.end) (stand_of self.new.end)
+            ⊎ FoundNone (stand_of self.old.end) (stand_of self.new.end))
+            × (got_by self.new.end ≡ got_by self.old.end))
+            (got_by self.new.end ≡ got_by self.old.end)) }
+        ensures none { OnErr result (got_by self.new.end ≡ got_by self.old.end) }
+        ensures closed { IfErr result (λ why. IfClosed why (IsBehind self.new.end)) }
+        ensures still { IsBehind self.old.end → result ≡ Err Closed }
+        ensures sent { sent_by self.new.end ≡ sent_by self.old.end }
+        ensures wakes { Tells 0 (wakes_of self.old.end) (wakes_of self.new.end) }
     {
         for _ in 0..TRIES {
-            if let Some(tried) = receiver.end.try_receive() {
+            if let Some(tried) = self.end.try_receive() {
                 return Ok(tried);
             }
-            if !self.go_on(&mut receiver.end, true)? {
+            if !self.end.go_on(true, false)? {
                 return Ok(Tried::Empty);
             }
         }

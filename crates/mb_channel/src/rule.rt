@@ -61,7 +61,7 @@ impl<T: Drop, F: Change<T>> Play<Homes<T>, Knows<T>> for GivesLock<F> {
 pub struct GetsNumber;
 
 impl<T: Drop> Play<Homes<T>, Knows<T>> for GetsNumber {
-    ghost use Rattle.mb_channel.specs.Homes.{gets_number};
+    ghost use Rattle.mb_channel.specs.Tallies.{gets_number};
 
     ghost then = { gets_number };
 }
@@ -69,8 +69,8 @@ impl<T: Drop> Play<Homes<T>, Knows<T>> for GetsNumber {
 pub struct Counts;
 
 impl<T: Drop> Play<Homes<T>, Knows<T>> for Counts {
-    ghost use Rattle.mb_channel.specs.Homes.{counts_more, rights};
-    ghost use Rattle.mb_channel.specs.Tallies.{counting};
+    ghost use Rattle.mb_channel.specs.Homes.{rights};
+    ghost use Rattle.mb_channel.specs.Tallies.{counting, counts_more};
 
     ghost then = { counting rights (λ _. counts_more) };
 }

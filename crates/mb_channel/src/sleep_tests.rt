@@ -1,13 +1,12 @@
-//! Threads over the calls that never wait: two receivers sleep, and a sender wakes them. Then two answers that come only
-//! between segments.
-ghost use Rattle.std.specs.Prelude.{◌≡◌};
+//! Threads over the calls that never wait: two receivers sleep, and a sender wakes them. A receiver also sleeps where it
+//! has to add the segment. Then an answer that comes only between segments.
 ghost use Rattle.std.specs.Thread.{IsSync};
-ghost use Rattle.mb_channel.specs.Ends.{IsEndOf};
 
-use crate::channel::Channel;
 use crate::end::{Receiver, Sender};
-use crate::polls::{Asleep, Polled};
+use crate::making::unbounded;
+use crate::polls::Asleep;
 use crate::try_sends::Sending;
+use crate::way_tests::awake;
 use std::alloc::{AllocError, Global};
 use std::process::Abort;
 use std::sync::Wait;
@@ -15,53 +14,32 @@ use std::test::Fail;
 use std::thread::{Threads, join, yield_now};
 
 /// Sleeps until it is woken. Returns a value if it found one, and the receiver.
-fn sleep_on<R: Wait>(rt: &R, asleep: Asleep<u64>) -> (Option<u64>, Receiver<u64>)
-    ensures list { result.1.end.chair.table_id ≡ asleep.debtor.chair.table_id }
-{
+fn sleep_on<R: Wait>(rt: &R, asleep: Asleep<u64>) -> (Option<u64>, Receiver<u64>) {
     let mut asleep = asleep;
     for _ in rt.forever() {
         asleep.sleep(rt);
-        match asleep.wake_up() {
-            Polled::Took(receiver, value) => return (Some(value), receiver),
-            Polled::TookOwing(leaving, value) => return (Some(value), leaving.pay(rt)),
-            Polled::Sleeps(still) => asleep = still,
-            Polled::Again(receiver) => return (None, receiver),
-            Polled::Owes(leaving) => return (None, leaving.pay(rt)),
-            Polled::Empty(receiver) => return (None, receiver),
-            Polled::Refused(receiver, _) => return (None, receiver),
+        match awake(rt, asleep.wake_up()) {
+            Ok(still) => asleep = still,
+            Err(found) => return found,
         }
     }
     unreachable!()
 }
 
 /// Polls once, and sleeps if no value is there.
-fn poll<R: Wait>(
-    rt: &R,
-    channel: &Channel<u64>,
-    receiver: Receiver<u64>,
-) -> (Option<u64>, Receiver<u64>)
-    requires channel { IsEndOf channel.now receiver.end }
-    ensures channel { IsEndOf channel.now result.1.end }
-{
-    match channel.poll_receive(receiver) {
-        Polled::Took(receiver, value) => (Some(value), receiver),
-        Polled::TookOwing(leaving, value) => (Some(value), leaving.pay(rt)),
-        Polled::Sleeps(asleep) => sleep_on(rt, asleep),
-        Polled::Again(receiver) => (None, receiver),
-        Polled::Owes(leaving) => (None, leaving.pay(rt)),
-        Polled::Empty(receiver) => (None, receiver),
-        Polled::Refused(receiver, _) => (None, receiver),
+fn poll<R: Wait>(rt: &R, receiver: Receiver<u64>) -> (Option<u64>, Receiver<u64>) {
+    match awake(rt, receiver.poll_receive()) {
+        Ok(asleep) => sleep_on(rt, asleep),
+        Err(found) => found,
     }
 }
 
 /// Receives values up to this one, which is the last. Returns their sum.
-fn receive_to<R: Wait>(rt: &R, channel: &Channel<u64>, receiver: Receiver<u64>, last: u64) -> u64
-    requires channel { IsEndOf channel.now receiver.end }
-{
+fn receive_to<R: Wait>(rt: &R, receiver: Receiver<u64>, last: u64) -> u64 {
     let mut receiver = receiver;
     let mut sum: u64 = 0;
     for _ in rt.forever() {
-        let (value, back) = poll(rt, channel, receiver);
+        let (value, back) = poll(rt, receiver);
         receiver = back;
         match value {
             Some(value) if value == last => break,
@@ -74,14 +52,11 @@ fn receive_to<R: Wait>(rt: &R, channel: &Channel<u64>, receiver: Receiver<u64>, 
 }
 
 /// Sends a value, and wakes whoever has to be woken.
-fn send_one<R: Wait>(rt: &R, channel: &Channel<u64>, sender: Sender<u64>, value: u64) -> Sender<u64>
-    requires channel { IsEndOf channel.now sender.end }
-    ensures channel { IsEndOf channel.now result.end }
-{
+fn send_one<R: Wait>(rt: &R, sender: Sender<u64>, value: u64) -> Sender<u64> {
     let mut sender = sender;
     let mut value = value;
     for _ in rt.forever() {
-        match channel.try_send(sender, value) {
+        match sender.try_send(value) {
             Sending::Sent(sender) => return sender,
             Sending::Owes(owing) => return owing.pay(rt),
             Sending::Again(back, unsent) => {
@@ -99,16 +74,13 @@ fn send_one<R: Wait>(rt: &R, channel: &Channel<u64>, sender: Sender<u64>, value:
 }
 
 /// Sends the values up to this one, and that one twice.
-fn send_to<R: Wait>(rt: &R, channel: &Channel<u64>, sender: Sender<u64>, last: u64) -> Sender<u64>
-    requires channel { IsEndOf channel.now sender.end }
-    ensures channel { IsEndOf channel.now result.end }
-{
+fn send_to<R: Wait>(rt: &R, sender: Sender<u64>, last: u64) -> Sender<u64> {
     let mut sender = sender;
     for value in 0..last {
-        sender = send_one(rt, channel, sender, value);
+        sender = send_one(rt, sender, value);
     }
-    sender = send_one(rt, channel, sender, last);
-    send_one(rt, channel, sender, last)
+    sender = send_one(rt, sender, last);
+    send_one(rt, sender, last)
 }
 
 /// Two threads receive, and a third sends. Returns the sum of what was received.
@@ -117,27 +89,20 @@ fn run_three<R: Threads + Wait + Abort + Sync>(
     alloc: Global,
     last: u64,
 ) -> Result<u64, AllocError> {
-    let (channel, sender, mut a) = Channel::<u64>::new(alloc)?;
-    let w = &channel;
-    let b = w.another_receiver(rt, &mut a).expect(rt, "an end");
+    let (sender, mut a) = unbounded::<u64>(alloc)?;
+    let b = a.another().expect(rt, "an end");
     let ((x, y), sender) = join(
         rt,
         move || -> (u64, u64)
-            requires { IsSync R.row × IsEndOf w.now a.end × IsEndOf w.now b.end }
+            requires { IsSync R.row }
         {
             join(
                 rt,
-                move || -> u64
-                    requires { IsEndOf w.now a.end }
-                { receive_to(rt, w, a, last) },
-                move || -> u64
-                    requires { IsEndOf w.now b.end }
-                { receive_to(rt, w, b, last) },
+                move || receive_to(rt, a, last),
+                move || receive_to(rt, b, last),
             )
         },
-        move || -> Sender<u64>
-            requires { IsEndOf w.now sender.end }
-        { send_to(rt, w, sender, last) },
+        move || send_to(rt, sender, last),
     );
     drop(sender);
     Ok(x.wrapping_add(y))
@@ -151,18 +116,10 @@ fn sleepers_are_woken(rt: HostRuntime) -> Result<(), Fail> {
 }
 
 /// A sender falls two segments behind. It needs one try more than a call makes.
-fn behind<R: Wait>(
-    rt: &R,
-    channel: &Channel<u64>,
-    slow: Sender<u64>,
-    quick: Sender<u64>,
-) -> (bool, Sender<u64>)
-    requires channel { IsEndOf channel.now slow.end × IsEndOf channel.now quick.end }
-    ensures channel { IsEndOf channel.now result.1.end }
-{
-    let slow = send_one(rt, channel, slow, 0);
-    drop(send_to(rt, channel, quick, 1086));
-    match channel.try_send(slow, 1) {
+fn behind<R: Wait>(rt: &R, slow: Sender<u64>, quick: Sender<u64>) -> (bool, Sender<u64>) {
+    let slow = send_one(rt, slow, 0);
+    drop(send_to(rt, quick, 1086));
+    match slow.try_send(1) {
         Sending::Sent(slow) => (false, slow),
         Sending::Owes(owing) => (false, owing.pay(rt)),
         Sending::Again(slow, value) => (value == 1, slow),
@@ -170,64 +127,87 @@ fn behind<R: Wait>(
     }
 }
 
-/// A receiver takes all values, and goes behind the last segment.
-fn past_the_last<R: Wait>(rt: &R, channel: &Channel<u64>, receiver: Receiver<u64>) -> bool
-    requires channel { IsEndOf channel.now receiver.end }
-{
-    let mut receiver = receiver;
-    for _ in 0..64 {
-        let (_, back) = poll(rt, channel, receiver);
-        receiver = back;
-    }
-    // It is told that the segment is over.
-    let (_, receiver) = poll(rt, channel, receiver);
-    match channel.poll_receive(receiver) {
-        Polled::Empty(receiver) => {
-            drop(receiver);
-            true
-        }
-        Polled::Took(receiver, _) => {
-            drop(receiver);
-            false
-        }
-        Polled::TookOwing(leaving, _) => {
-            drop(leaving.pay(rt));
-            false
-        }
-        Polled::Sleeps(asleep) => {
-            drop(asleep.give_up().pay(rt));
-            false
-        }
-        Polled::Again(receiver) => {
-            drop(receiver);
-            false
-        }
-        Polled::Owes(leaving) => {
-            drop(leaving.pay(rt));
-            false
-        }
-        Polled::Refused(receiver, _) => {
+/// Polls, and tells another thread so. Then it sleeps until this value comes. Whether it slept, and received that value.
+fn sleep_for<R: Wait>(rt: &R, receiver: Receiver<u64>, polled: Sender<u64>, last: u64) -> bool {
+    let found = awake(rt, receiver.poll_receive());
+    drop(send_one(rt, polled, 0));
+    match found {
+        Ok(asleep) => match sleep_on(rt, asleep) {
+            (Some(value), receiver) => {
+                drop(receiver);
+                value == last
+            }
+            (None, receiver) => receive_to(rt, receiver, last) == 0,
+        },
+        Err((_, receiver)) => {
             drop(receiver);
             false
         }
     }
 }
 
+/// Sends a value, once another thread has polled.
+fn send_after<R: Wait>(
+    rt: &R,
+    sender: Sender<u64>,
+    polled: Receiver<u64>,
+    value: u64,
+) -> Sender<u64> {
+    let mut polled = polled;
+    drop(polled.receive(rt));
+    drop(polled);
+    send_one(rt, sender, value)
+}
+
+/// A receiver takes so many values, which are all, and falls asleep. Then another thread sends one more, and wakes it.
+/// Whether it slept, and received that value.
+fn is_woken<R: Threads + Wait + Abort + Sync>(
+    rt: &R,
+    alloc: Global,
+    sender: Sender<u64>,
+    receiver: Receiver<u64>,
+    many: u64,
+) -> Result<bool, AllocError> {
+    let (tell, hear) = unbounded::<u64>(alloc)?;
+    let mut receiver = receiver;
+    for _ in 0..many {
+        let (_, back) = poll(rt, receiver);
+        receiver = back;
+    }
+    let (woken, sender) = join(
+        rt,
+        move || sleep_for(rt, receiver, tell, 7),
+        move || send_after(rt, sender, hear, 7),
+    );
+    drop(sender);
+    Ok(woken)
+}
+
 #[test]
 fn a_sender_that_is_behind_tries_again(rt: HostRuntime) -> Result<(), Fail> {
-    let (channel, mut slow, receiver) = Channel::<u64>::new(rt.alloc())?;
-    let quick = channel.another_sender(&rt, &mut slow).expect(&rt, "an end");
-    let (again, slow) = behind(&rt, &channel, slow, quick);
-    drop(send_one(&rt, &channel, slow, 1));
+    let (mut slow, receiver) = unbounded::<u64>(rt.alloc())?;
+    let quick = slow.another().expect(&rt, "an end");
+    let (again, slow) = behind(&rt, slow, quick);
+    drop(send_one(&rt, slow, 1));
     drop(receiver);
     assert!(rt; again);
     Ok(())
 }
 
 #[test]
-fn a_receiver_behind_the_last_segment_finds_none(rt: HostRuntime) -> Result<(), Fail> {
-    let (channel, sender, receiver) = Channel::<u64>::new(rt.alloc())?;
-    drop(send_to(&rt, &channel, sender, 62));
-    assert!(rt; past_the_last(&rt, &channel, receiver));
+fn a_receiver_sleeps_before_the_first_value(rt: HostRuntime) -> Result<(), Fail> {
+    let (sender, receiver) = unbounded::<u64>(rt.alloc())?;
+    let woken = is_woken(&rt, rt.alloc(), sender, receiver, 0)?;
+    assert!(rt; woken);
+    Ok(())
+}
+
+#[test]
+fn a_receiver_sleeps_past_the_last_segment(rt: HostRuntime) -> Result<(), Fail> {
+    let (sender, receiver) = unbounded::<u64>(rt.alloc())?;
+    let sender = send_to(&rt, sender, 62);
+    // The last poll of a full segment says that it is over.
+    let woken = is_woken(&rt, rt.alloc(), sender, receiver, 65)?;
+    assert!(rt; woken);
     Ok(())
 }

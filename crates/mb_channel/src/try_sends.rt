@@ -2,7 +2,7 @@
 ghost use Rattle.std.specs.Prelude.{◌≡◌, ◌<◌};
 ghost use Rattle.mb_channel.specs.Homes.{view_in};
 
-use crate::channel::{Channel, TRIES};
+use crate::channel::TRIES;
 use crate::debtor::{Debtor, Step};
 use crate::end::Sender;
 use crate::sends::NotSent;
@@ -27,19 +27,18 @@ pub enum Sending<T: Drop> {
     Refused(Sender<T>, NotSent<T>),
 }
 
-impl<T: Drop> Channel<T> {
-    ghost use Rattle.mb_channel.specs.Ends.{IsBehind, IsEndOf, stand_of};
+impl<T: Drop> Sender<T> {
+    ghost use Rattle.mb_channel.specs.Ends.{IsBehind, stand_of};
     ghost use Rattle.mb_channel.specs.Standing.{OfSending, TellsClosed};
     ghost use Rattle.mb_channel.specs.Wakes.{Tells, after_sending, wakes_of};
 
     /// Tries to send a value, behind all that the sender sent before. It makes a few accesses, and wakes nobody.
-    pub fn try_send(&self, sender: Sender<T>, value: T) -> Sending<T>
-        requires channel { IsEndOf self.now sender.end }
-        ensures answer { OfSending result value (stand_of sender.end) }
-        ensures wakes { Tells 0 (wakes_of sender.end) (after_sending result) }
-        ensures still { IsBehind sender.end → TellsClosed result }
+    pub fn try_send(self, value: T) -> Sending<T>
+        ensures answer { OfSending result value (stand_of self.end) }
+        ensures wakes { Tells 0 (wakes_of self.end) (after_sending result) }
+        ensures still { IsBehind self.end → TellsClosed result }
     {
-        let Sender { mut end } = sender;
+        let Sender { mut end } = self;
         let mut value = value;
         for _ in 0..TRIES {
             match end.try_send(value) {
@@ -51,7 +50,7 @@ impl<T: Drop> Channel<T> {
                     value = unsent;
                 }
             }
-            if let Err(why) = self.go_on(&mut end, false) {
+            if let Err(why) = end.go_on(false, true) {
                 return Sending::Refused(Sender { end }, NotSent { value, why });
             }
         }
@@ -91,7 +90,8 @@ impl<T: Drop> Owing<T> {
         ensures wakes { IfOk result.1
             (λ s. Tells (one_if result.0) (wakes_with self.debtor) (wakes_of s.end)) }
         ensures still { IfErr result.1
-            (λ o. Tells (one_if result.0) (wakes_with self.debtor) (wakes_with o.debtor)) }
+            (λ o. Tells (one_if result.0) (wakes_with self.debtor) (wakes_with o.debtor)
+            × ((wakes_with o.debtor).untold ≡ 0)) }
     {
         let Owing { debtor } = self;
         let (wakes, rest) = debtor.pay_some();

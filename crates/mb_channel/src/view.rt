@@ -41,6 +41,8 @@ pub struct Knows<T: Drop> {
     pub holds: bool,
     pub before: LinkedList<Home<T>>,
     /// Whether it has the lock, and saw that the list is not closed.
+    pub is_open: bool,
+    /// Whether it then also saw that a sender is left. So it may add a segment.
     pub may_add: bool,
     /// Whether no sender is left.
     pub alone: bool,

@@ -191,8 +191,8 @@ impl<T: Drop> List<T> {
         self.give::<F>(chair);
     }
 
-    /// Tells an end that is behind the last segment whether one may still come, and gives the lock back.
-    fn tell(&self, chair: &mut Chair<T>, at: usize) -> Came<T>
+    /// Tells an end that is behind the last segment whether one may still come, or adds it, and gives the lock back.
+    fn tell(&self, chair: &mut Chair<T>, at: usize, adds: bool) -> Came<T>
         requires list { chair.old.table_id ≡ self.now.table.shared.table_id }
         requires held { ((view_in chair.old).live ≡ true) × ((view_in chair.old).holds ≡ true) }
         requires homes { HoldsHomes chair.old.me (λ hs. hs ≡ (view_in chair.old).before) }
@@ -214,12 +214,22 @@ impl<T: Drop> List<T> {
             self.tell_last::<Brand>(chair, at);
             return Came::Closed;
         }
+        if !adds {
+            self.unlock(chair);
+            return Came::NotYet;
+        }
+        let added = self.add_home(chair, at);
         self.unlock(chair);
-        Came::NotYet
+        match added {
+            Ok(()) => Came::Added,
+            Err(_) => Came::NotYet,
+        }
     }
 
-    /// Comes to the segment at this place, to receive too or to send alone.
-    pub fn come(&self, chair: &mut Chair<T>, at: usize, takes: bool) -> Came<T>
+    /// Comes to the segment at this place, to receive too or to send alone. If there is none yet, it may add it, but only
+    /// if it saw under the lock that the list is not closed and that a sender is left. An end that comes has left each
+    /// segment before only once nothing could be sent there.
+    pub fn come(&self, chair: &mut Chair<T>, at: usize, takes: bool, adds: bool) -> Came<T>
         requires list { chair.old.table_id ≡ self.now.table.shared.table_id }
         requires ready { IsReady chair.old.me }
         requires here { ((view_in chair.old).at ≡ at) × ((view_in chair.old).inside ≡ false) }
@@ -249,7 +259,7 @@ impl<T: Drop> List<T> {
                 self.go_on::<Brand>(chair, first);
                 Came::Gone(first)
             }
-            Came::NotYet => self.tell(chair, at),
+            Came::NotYet | Came::Added => self.tell(chair, at, adds),
             Came::Closed => {
                 self.unlock(chair);
                 Came::Closed

@@ -1,9 +1,7 @@
 //! Each answer of the calls that never wait, in one thread.
-ghost use Rattle.std.specs.Prelude.{◌≡◌, IfErr, IfOk};
-ghost use Rattle.mb_channel.specs.Ends.{IsEndOf};
 
-use crate::channel::Channel;
 use crate::end::{Receiver, Sender};
+use crate::making::unbounded;
 use crate::polls::{Asleep, Polled};
 use crate::try_sends::Sending;
 use std::sync::Wait;
@@ -20,16 +18,8 @@ enum Sent {
     Not,
 }
 
-fn send<R: Wait>(
-    rt: &R,
-    channel: &Channel<u64>,
-    sender: Sender<u64>,
-    value: u64,
-) -> (Sent, Sender<u64>)
-    requires channel { IsEndOf channel.now sender.end }
-    ensures channel { IsEndOf channel.now result.1.end }
-{
-    match channel.try_send(sender, value) {
+fn send<R: Wait>(rt: &R, sender: Sender<u64>, value: u64) -> (Sent, Sender<u64>) {
+    match sender.try_send(value) {
         Sending::Sent(sender) => (Sent::Calm, sender),
         Sending::Owes(owing) => match owing.pay_some() {
             (true, Ok(sender)) => (Sent::Wakes, sender),
@@ -42,7 +32,7 @@ fn send<R: Wait>(
 }
 
 /// What a receiver has that does not sleep: a value, or none.
-fn awake<R: Wait>(
+pub(crate) fn awake<R: Wait>(
     rt: &R,
     polled: Polled<u64>,
 ) -> Result<Asleep<u64>, (Option<u64>, Receiver<u64>)> {
@@ -52,7 +42,6 @@ fn awake<R: Wait>(
         Polled::Sleeps(asleep) => Ok(asleep),
         Polled::Again(receiver) => Err((None, receiver)),
         Polled::Owes(leaving) => Err((None, leaving.pay(rt))),
-        Polled::Empty(receiver) => Err((None, receiver)),
         Polled::Refused(receiver, _) => Err((None, receiver)),
     }
 }
@@ -60,18 +49,15 @@ fn awake<R: Wait>(
 /// A receiver takes the first value, and falls asleep. A sender gives it a token. It wakes up, and takes the second.
 fn sleep_and_wake<R: Wait>(
     rt: &R,
-    channel: &Channel<u64>,
     sender: Sender<u64>,
     receiver: Receiver<u64>,
-) -> (Option<u64>, Sent, Sent, Option<u64>)
-    requires channel { IsEndOf channel.now sender.end × IsEndOf channel.now receiver.end }
-{
-    let (calm, sender) = send(rt, channel, sender, 7);
-    let (first, receiver) = match channel.poll_receive(receiver) {
+) -> (Option<u64>, Sent, Sent, Option<u64>) {
+    let (calm, sender) = send(rt, sender, 7);
+    let (first, receiver) = match receiver.poll_receive() {
         Polled::Took(receiver, value) => (Some(value), receiver),
         other => return (drop_all(rt, other), calm, Sent::Not, None),
     };
-    let asleep = match awake(rt, channel.poll_receive(receiver)) {
+    let asleep = match awake(rt, receiver.poll_receive()) {
         Ok(asleep) => asleep,
         Err(_) => return (first, calm, Sent::Not, None),
     };
@@ -80,7 +66,7 @@ fn sleep_and_wake<R: Wait>(
         Ok(asleep) => asleep,
         Err(_) => return (first, calm, Sent::Not, None),
     };
-    let (wakes, sender) = send(rt, channel, sender, 8);
+    let (wakes, sender) = send(rt, sender, 8);
     drop(sender);
     let second = drop_all(rt, asleep.wake_up());
     (first, calm, wakes, second)
@@ -103,25 +89,22 @@ fn drop_all<R: Wait>(rt: &R, polled: Polled<u64>) -> Option<u64> {
 /// A receiver falls asleep, gets a token, and gives up. The value is received after that. How often it paid.
 fn give_up_with_a_token<R: Wait>(
     rt: &R,
-    channel: &Channel<u64>,
     sender: Sender<u64>,
     receiver: Receiver<u64>,
-) -> (Sent, u64)
-    requires channel { IsEndOf channel.now sender.end × IsEndOf channel.now receiver.end }
-{
-    let (_, sender) = send(rt, channel, sender, 7);
-    let receiver = match channel.poll_receive(receiver) {
+) -> (Sent, u64) {
+    let (_, sender) = send(rt, sender, 7);
+    let receiver = match receiver.poll_receive() {
         Polled::Took(receiver, _) => receiver,
         other => {
             drop(drop_all(rt, other));
             return (Sent::Not, 0);
         }
     };
-    let asleep = match awake(rt, channel.poll_receive(receiver)) {
+    let asleep = match awake(rt, receiver.poll_receive()) {
         Ok(asleep) => asleep,
         Err(_) => return (Sent::Not, 0),
     };
-    let (wakes, sender) = send(rt, channel, sender, 8);
+    let (wakes, sender) = send(rt, sender, 8);
     drop(sender);
     let place = asleep.place();
     let mut leaving = asleep.give_up();
@@ -144,8 +127,8 @@ fn give_up_with_a_token<R: Wait>(
 
 #[test]
 fn a_sleeper_is_woken(rt: HostRuntime) -> Result<(), Fail> {
-    let (channel, sender, receiver) = Channel::<u64>::new(rt.alloc())?;
-    let (first, calm, wakes, second) = sleep_and_wake(&rt, &channel, sender, receiver);
+    let (sender, receiver) = unbounded::<u64>(rt.alloc())?;
+    let (first, calm, wakes, second) = sleep_and_wake(&rt, sender, receiver);
     assert!(rt; first == Some(7));
     assert!(rt; calm == Sent::Calm);
     assert!(rt; wakes == Sent::Wakes);
@@ -155,8 +138,8 @@ fn a_sleeper_is_woken(rt: HostRuntime) -> Result<(), Fail> {
 
 #[test]
 fn a_sleeper_gives_up_with_a_token(rt: HostRuntime) -> Result<(), Fail> {
-    let (channel, sender, receiver) = Channel::<u64>::new(rt.alloc())?;
-    let (wakes, times) = give_up_with_a_token(&rt, &channel, sender, receiver);
+    let (sender, receiver) = unbounded::<u64>(rt.alloc())?;
+    let (wakes, times) = give_up_with_a_token(&rt, sender, receiver);
     assert!(rt; wakes == Sent::Wakes);
     // It no longer waits. It leaves with the token, and finds that nobody else sleeps.
     assert!(rt; times == 2);

@@ -1,17 +1,18 @@
 -- The exchange that claims a position keeps the rule.
 use Rattle.mb_ring.proofs.Base.{Allows, List, Some, [], ap, append_assoc, arith, at_last, at_longer, either, exchanged, get_elem?, inl, inr}
 use Rattle.mb_ring.proofs.Base.{keeps, length, length-append, none, refl, set_else, slice_index, slice_set, some, step, subst, suc, sym, takes, ℕ, ⊎_elim}
-use Rattle.mb_ring.proofs.Base.{◌%◌, ◌*◌, ◌++◌, ◌+◌, ◌-◌, ◌<◌, ◌==◌, ◌∙◌, ◌∷◌, ◌≡◌, ◌≢◌, ◌≤◌}
+use Rattle.mb_ring.proofs.Base.{◌%◌, ◌*◌, ◌++◌, ◌+◌, ◌-◌, ◌<◌, ◌==◌, ◌∙◌, ◌∷◌, ◌≡◌, ◌≢◌}
 use Rattle.mb_segment.proofs.Spots.{entries_append, entry_of, size_set, snoc_at, to_other, to_own}
 use Rattle.mb_segment.proofs.Halves.{match_kept, no_hub, no_reads, no_spent, no_writes}
-use Rattle.mb_ring.specs.Vocabulary.{Claim, Duty, Entry, Half, HalfFits, HasHalf, History, Homes, In, Keeps, Member, Nothing, Reads, Sat, Taken}
+use Rattle.mb_ring.specs.Vocabulary.{Claim, Claimed, Duty, Entry, Half, HalfFits, HasHalf, History, Homes, In, Keeps, Member, Nothing, Reads, Sat, Taken}
 use Rattle.mb_ring.specs.Vocabulary.{Undrawn, View, Waiting, Writes, all_entries, claiming, done, drawn, looked, with_duty, entries, got_by}
 use Rattle.mb_ring.specs.Vocabulary.{Room, Values, free, owes_wake}
 use Rattle.mb_ring.specs.Vocabulary.{sees_taken, spot, spots_by, taken, took, turn}
 use Rattle.mb_ring.proofs.Turns.{other_slot}
 use Rattle.mb_ring.proofs.Halves.{half_else, half_here, heard_claim, may_take}
 use Rattle.mb_ring.proofs.Sleep.{IsLook, Law, free_more}
-use Rattle.mb_ring.proofs.Kept.{Next, Same, St, moved}
+use Rattle.mb_ring.proofs.Kept.{Next, Same, St, looked_still, moved}
+use Rattle.mb_ring.proofs.Walks.{a_claim}
 use Rattle.mb_ring.proofs.Loads.{Goes, at1, resized, sees, steps}
 
 -- pass i claims position `old`, the first that waits. It saw that it was marked
@@ -187,6 +188,7 @@ module _ {T : Type 0} where
         tokens = k.tokens;
         waiting = k.waiting;
         cut = k.cut;
+        walk = Claimed ∷ k.walk;
       } in (
         w,
         takes (old % slots) (Some b.value),
@@ -198,6 +200,7 @@ module _ {T : Type 0} where
               ∷ (k.tokens Room + 4294967296 * k.waiting Room) ∷ k.states);
           narrow = λ q. (k.lists q).narrow;
           counted = elim [ Values ↦ let l = look.0 in omega arith | Room ↦ refl ];
+          given = λ q. refl;
           laws = elim [
             | Values ↦ claim_values f v.duty.values (length k.history.rest) (length bs) (free k.cut 1)
                 (k.tokens Values) (k.waiting Values) look (omega arith)
@@ -224,6 +227,8 @@ module _ {T : Type 0} where
           roll = λ as_ m. match_kept k.history g k.roll as_
               (λ j in_. same_ j (λ q. mem.not_back (subst (λ (z : ℕ). In z k.roll) q in_))) m;
           halves = λ j half ne hf. claim_halves s k i v w at old now_ r idle b bs first refl j half hf;
+          walk = a_claim k.walk g slots i w (looked_still s k i v w at refl refl)
+              (let d = k.walked.0 in let l = k.walked.1 in (omega arith, omega arith)) k.true_;
           own = record {
             member = λ _. record {
               sent = mem.sent ∙ sym (ap (spots_by i 0) al);
@@ -268,7 +273,7 @@ module _ {T : Type 0} where
         sees_taken r me.0,
         keeps,
         tt,
-        sees s k 1 i me.0 at me.1 record me.0.sight { low = r } record {
+        sees s k 1 i me.0 at me.1 record me.0.sight { low = r } refl record {
           low = omega arith;
           top = f'.top;
           room = f'.room;

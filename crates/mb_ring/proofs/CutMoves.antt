@@ -5,7 +5,8 @@ use Rattle.mb_segment.proofs.Halves.{free_shut, match_kept, no_hub, no_spent, un
 use Rattle.mb_ring.specs.Vocabulary.{Half, HalfFits, History, In, Keeps, Member, Nothing, Reads, Sat, Writes, did_cut}
 use Rattle.mb_ring.specs.Vocabulary.{Room, Values, exchanging, owes_both, spot, taken}
 use Rattle.mb_ring.proofs.Halves.{half_stays}
-use Rattle.mb_ring.proofs.Kept.{Next, Same, moved, now}
+use Rattle.mb_ring.proofs.Kept.{Next, Same, looked_still, moved, now}
+use Rattle.mb_ring.proofs.Walks.{silent}
 use Rattle.mb_ring.proofs.Loads.{at0, exchanges}
 
 module _ {T : Type 0} where
@@ -43,6 +44,7 @@ module _ {T : Type 0} where
               ∷ (k.tokens Room + 4294967296 * k.waiting Room) ∷ k.states) (omega arith);
           narrow = λ q. (k.lists q).narrow;
           counted = elim [ Values ↦ refl | Room ↦ refl ];
+          given = λ q. refl;
           laws = elim [
             | Values ↦ λ L O C L' O' C' l o c le q h'.
                 (⊎_elim (λ y. inl (omega arith)) (λ y. inr (omega arith)) q, inr (omega arith))
@@ -74,6 +76,7 @@ module _ {T : Type 0} where
           roll = λ as_ m. match_kept h g k.roll as_ (λ j in_. same_ j
               (λ q. mem.not_back (subst (λ (z : ℕ). In z k.roll) q in_))) m;
           halves = λ j half ne f. half_cut h (Some i) k.size k.states j half f;
+          walk = silent k.walk g k.size i w (looked_still s k i v w at refl refl) k.walked k.true_;
           own = record {
             member = λ _. record {
               sent = mem.sent;

@@ -4,14 +4,15 @@ use Rattle.mb_ring.proofs.Base.{either, get_elem?, inl, inr, length, length-appe
 use Rattle.mb_ring.proofs.Base.{step, suc, zero, subst, sym, takes, ℕ, ⊎_elim, ◌%◌, ◌*◌, ◌++◌, ◌+◌, ◌-◌, ◌<◌, ◌==◌, ◌∙◌, ◌∷◌, ◌≡◌, ◌≢◌, ◌≤◌, ◌⊎◌}
 use Rattle.mb_segment.proofs.Spots.{all_length, at_below, below_length, by_other, by_own, same_some, size_set, snoc_at}
 use Rattle.mb_segment.proofs.Halves.{match_kept, no_hub, no_reads, no_spent, no_writes}
-use Rattle.mb_ring.specs.Vocabulary.{Entry, Half, HalfFits, HasHalf, History, Homes, In, Keeps, Member, Nothing, Reads, Sat, Taken}
+use Rattle.mb_ring.specs.Vocabulary.{Drew, Entry, Half, HalfFits, HasHalf, History, Homes, In, Keeps, Member, Nothing, Reads, Sat, Taken}
 use Rattle.mb_ring.specs.Vocabulary.{Undrawn, View, Waiting, Writes, all_entries, done, drawing, drawing_picked, drawn, drew}
 use Rattle.mb_ring.specs.Vocabulary.{Duty, Room, Values, free, looked}
 use Rattle.mb_ring.specs.Vocabulary.{entries, owes_wake, sent_by, spot, spots_by, taken, turn, with_duty}
 use Rattle.mb_ring.proofs.Turns.{lap_on, one_slot, other_slot}
 use Rattle.mb_ring.proofs.Halves.{half_else, half_here, heard_draw, may_send}
 use Rattle.mb_ring.proofs.Sleep.{IsLook, Law}
-use Rattle.mb_ring.proofs.Kept.{Next, Same, St, moved}
+use Rattle.mb_ring.proofs.Kept.{Next, Same, St, looked_still, moved}
+use Rattle.mb_ring.proofs.Walks.{a_draw}
 use Rattle.mb_ring.proofs.Loads.{at0, exchanges, resized}
 
 -- pass i draws position `old` for the value x. It saw that its slot was free
@@ -187,6 +188,7 @@ module _ {T : Type 0} where
         tokens = k.tokens;
         waiting = k.waiting;
         cut = k.cut;
+        walk = Drew ∷ k.walk;
       } in (
         w,
         takes (old % slots) None,
@@ -197,6 +199,7 @@ module _ {T : Type 0} where
               ∷ (k.tokens Room + 4294967296 * k.waiting Room) ∷ k.states) next;
           narrow = λ q. (k.lists q).narrow;
           counted = elim [ Values ↦ omega arith | Room ↦ let e = look.0 in omega arith ];
+          given = λ q. refl;
           laws = elim [
             | Values ↦ draw_values v.duty.values (length h.rest) (length g.rest) (free k.cut 1) (k.tokens Values)
                 (k.waiting Values) (omega arith)
@@ -223,6 +226,8 @@ module _ {T : Type 0} where
           roll = λ as_ m. match_kept h g k.roll as_ (λ j in_. same_ j
               (λ q. mem.not_back (subst (λ (z : ℕ). In z k.roll) q in_))) m;
           halves = λ j half ne hf. draw_halves s k i v at x old now_ free_ idle w refl j half hf;
+          walk = a_draw k.walk g slots i w (looked_still s k i v w at refl refl)
+              (let d = k.walked.0 in let l = k.walked.1 in (omega arith, omega arith)) k.true_;
           own = record {
             member = λ _. record {
               sent = ap (λ l. l ++ spot old x ∷ []) mem.sent ∙ sym

@@ -1,13 +1,14 @@
 -- The load of the number drawn, after one of the number claimed, keeps the rule.
 use Rattle.mb_ring.proofs.Base.{Allows, List, [], ap, arith, dec_le, dec_lt, get_elem?, inl, inr, keeps, length, none}
-use Rattle.mb_ring.proofs.Base.{refl, slice_index, some, step, subst, sym, ℕ, ⊎_elim, ◌%◌, ◌+◌, ◌<◌, ◌≡◌, ◌≤◌}
+use Rattle.mb_ring.proofs.Base.{refl, slice_index, some, step, subst, sym, ℕ, ⊎_elim, ◌%◌, ◌<◌, ◌∷◌, ◌≡◌, ◌≤◌}
 use Rattle.mb_segment.proofs.Spots.{all_length, below_by, nothing_left}
-use Rattle.mb_ring.specs.Vocabulary.{Below, Fits, Issuer, Keeps, Member, Role, SawAllTaken, Sat, Spent, Spot, View}
+use Rattle.mb_ring.specs.Vocabulary.{Below, Fits, FoundEmpty, Issuer, Keeps, Member, Role, SawAllTaken, Sat, Spent, Spot, View}
 use Rattle.mb_ring.specs.Vocabulary.{all_entries, drawn, looking, sees_drawn, sees_empty, told, Duty, done, falls_asleep}
 use Rattle.mb_ring.specs.Vocabulary.{free, in_list, looked, on, Values, with_duty}
 use Rattle.mb_ring.proofs.Laps.{marked_drawn}
-use Rattle.mb_ring.proofs.Kept.{St, one_listed, one_owes, settled}
-use Rattle.mb_ring.proofs.Loads.{Goes, StaysIdle, at0, loaded, owing, pays, refit, sees, steps}
+use Rattle.mb_ring.proofs.Walks.{finds_nothing}
+use Rattle.mb_ring.proofs.Kept.{St, no_event, one_listed, one_owes, settled}
+use Rattle.mb_ring.proofs.Loads.{Goes, StaysIdle, at0, loaded, owing, pays_at, refit, sees, steps}
 
 -- the pass owes other things, and is in the list as often as before
 abbrev StaysListed : {T : Type 0} → (Duty → Duty) → View T → Type 0
@@ -25,7 +26,7 @@ module _ {T : Type 0} where
 
   -- where all that are drawn are below r, those are that the pass drew or saw marked
   all_below : (s : St T) (k : Keeps s) (i : ℕ) (v : View T) → get_elem? s.views i ≡ some v → (r : ℕ)
-      → drawn k.history ≤ r → SawAllTaken (sees_empty r v)
+      → drawn k.history ≤ r → SawAllTaken (sees_empty r k.walk v)
   all_below s k i v at r le = (
     sent (k.fits i v at) le v.role refl,
     λ p e. let lt = marked_drawn s k i v at p e in omega arith,
@@ -53,7 +54,7 @@ module _ {T : Type 0} where
         sees_drawn r me.0,
         keeps,
         tt,
-        sees s k 0 i me.0 at me.1 record me.0.sight { top = r } record {
+        sees s k 0 i me.0 at me.1 record me.0.sight { top = r } refl record {
           low = y.low;
           top = omega arith;
           room = y.room;
@@ -71,7 +72,7 @@ module _ {T : Type 0} where
       )
   looks_at f g slots i me lf lg sleeps s k at (yes none_) (yes open_) =
       let r = slice_index s.words 0 in
-      let w = sees_empty r (with_duty Values f me.0) in
+      let w = sees_empty r k.walk (with_duty Values f me.0) in
       let now_ = at0 s k in
       let empty = nothing_waits s k i me.0 at none_ in
       let zero_ : length k.history.rest ≡ 0 = ap length empty in
@@ -81,7 +82,9 @@ module _ {T : Type 0} where
         w,
         keeps,
         tt,
-        pays s k 0 i me.0 at me.1 Values f record me.0.sight { empty = r; found = me.0.sight.found + 1 } lf.2 lf.0
+        pays_at s k 0 i me.0 (FoundEmpty i ∷ k.walk) at me.1 Values f w.sight
+            (finds_nothing k.walk k.history k.size i (with_duty Values f me.0) (k.looks i me.0 at) k.walked k.true_
+            zero_ r (omega arith)) lf.2 lf.0
             (λ L O C L' O' C' l' o c le q h. (inr (omega arith), inr (omega arith))) record {
               low = y.low;
               top = y.top;
@@ -94,6 +97,7 @@ module _ {T : Type 0} where
         (
           (λ lt. absurd (omega arith)),
           (λ _ _. (
+            k.walk,
             (refl, refl),
             all_below s k i me.0 at r (omega arith),
             let d = (k.fits i me.0 at).heard.0 in omega arith,
@@ -108,24 +112,25 @@ module _ {T : Type 0} where
       let small = k.small in
       let empty = nothing_waits s k i me.0 at none_ in
       let zero_ : length k.history.rest ≡ 0 = ap length empty in
-      let fit = refit k.history k.size k.states k.cut k.hub k.roll i me.0 (on Values g me.0.duty) lg.2
+      let fit = refit k.history k.size k.states k.cut k.hub k.roll i me.0 (on Values g me.0.duty) me.0.tokens lg.2
       (k.fits i me.0 at) in (
         w,
         keeps,
         tt,
-        loaded s 0 i me.1 w (settled s k i me.0 w at (one_listed me.0 Values g lg.0) refl refl refl record {
-          member = λ r. let m = fit.member r in record
-              { sent = m.sent; got = m.got; cut = m.cut; no_hub = m.no_hub; not_back = m.not_back };
-          hub_ = λ r. let m = fit.hub_ r in record
-              { here = m.here; ends = m.ends; nothing = m.nothing; idle = m.idle };
-          back = fit.back;
-          debt = fit.debt;
-          half = fit.half;
-          sight = fit.sight;
-          heard = fit.heard;
-          over = λ _. (omega arith, empty);
-          last = λ _ _. omega arith;
-        }
+        loaded s 0 i me.1 w (settled s k i me.0 w k.walk at (no_event s k i me.0 w at refl refl)
+            (one_listed me.0 Values g lg.0) refl refl refl refl record {
+              member = λ r. let m = fit.member r in record
+                  { sent = m.sent; got = m.got; cut = m.cut; no_hub = m.no_hub; not_back = m.not_back };
+              hub_ = λ r. let m = fit.hub_ r in record
+                  { here = m.here; ends = m.ends; nothing = m.nothing; idle = m.idle };
+              back = fit.back;
+              debt = fit.debt;
+              half = fit.half;
+              sight = fit.sight;
+              heard = fit.heard;
+              over = λ _. (omega arith, empty);
+              last = λ _ _. omega arith;
+            }
             (one_owes s k me.0 Values g (λ L O C L' O' C' l' o c le q h. let e = lg.1 in
             (inr (omega arith), ⊎_elim (λ x. inl (omega arith)) (λ x. inr (omega arith)) h)))),
         (

@@ -9,7 +9,7 @@ use Rattle.mb_ring.proofs.Totals.{below_total}
 use Rattle.mb_ring.proofs.Turns.{next_lap}
 use Rattle.mb_ring.proofs.Kept.{St}
 use Rattle.mb_ring.proofs.Loads.{at0, at1}
-use Rattle.mb_ring.proofs.PassMoves.{out_of_hub}
+use Rattle.mb_ring.proofs.BackMoves.{out_of_hub}
 use Rattle.mb_ring.proofs.Places.{closer, drawer, taker}
 use Rattle.std.specs.Prelude.{slice_index_or}
 use Rattle.atomic_table.specs.Table.{Final, Seen}

@@ -2,14 +2,15 @@
 use Rattle.mb_ring.proofs.Base.{List, Option, State, [], ap, arith, at_set, false, get_elem?, inl, inr, length}
 use Rattle.mb_ring.proofs.Base.{refl, slice_set, some, subst, sym, ℕ, ⊎_elim, ◌*◌, ◌+◌, ◌<◌, ◌∙◌, ◌∷◌, ◌≡◌, ◌≢◌}
 use Rattle.mb_ring.proofs.Base.{◌≤◌}
-use Rattle.mb_ring.specs.Vocabulary.{Account, Duties, Duty, Fits, Half, HalfFits, History, Homes, IsAwaited}
-use Rattle.mb_ring.specs.Vocabulary.{Keeps, Match, Reads, Room, Sight, SightFits, Taken, Undrawn, Values, View}
-use Rattle.mb_ring.specs.Vocabulary.{Waiting, Want, Writes, closing, cuts_by, drawn, free, got_by, has_cut}
+use Rattle.mb_ring.specs.Vocabulary.{Account, Duties, Duty, Event, Fits, Half, HalfFits, History, Homes, IsAwaited}
+use Rattle.mb_ring.specs.Vocabulary.{Keeps, Match, Member, Reads, Room, Sight, SightFits, Taken, Undrawn, Values, View}
+use Rattle.mb_ring.specs.Vocabulary.{Waiting, Want, Writes, blind, closing, cuts_by, drawn, free, got_by, has_cut}
 use Rattle.mb_ring.specs.Vocabulary.{if_hub, in_list, listed, member, one_if_member, out, owed, part, ready}
-use Rattle.mb_ring.specs.Vocabulary.{sent_by, sleeping, spot, taken, total, turn, with_duty}
+use Rattle.mb_ring.specs.Vocabulary.{Tallies, sent_by, sleeping, spot, taken, tally, tokens_given, tokens_taken, total, turn, with_duty}
 use Rattle.mb_segment.proofs.Spots.{below_length, size_set}
 use Rattle.mb_ring.proofs.Totals.{asleep_listed, total_set}
 use Rattle.mb_ring.proofs.Halves.{half_stays}
+use Rattle.mb_ring.proofs.Walks.{Looks, Walks, only_looks, silent}
 use Rattle.mb_ring.proofs.Sleep.{Law, law_rest}
 
 abbrev pub St : Type 0 → Type 0
@@ -24,6 +25,7 @@ pub record Next (T : Type 0) : Type 0 where
   pub tokens : Want → ℕ
   pub waiting : Want → ℕ
   pub cut : ℕ
+  pub walk : List Event
 
 module _ {T : Type 0} where
   -- other passes did the same
@@ -39,6 +41,7 @@ module _ {T : Type 0} where
     tokens = k.tokens;
     waiting = k.waiting;
     cut = k.cut;
+    walk = k.walk;
   }
 
   abbrev pub after : St T → Next T → ℕ → View T → St T
@@ -52,11 +55,17 @@ module _ {T : Type 0} where
   abbrev pub Counts : (s : St T) → Keeps s → View T → View T → Next T → Type 0
   Counts s k v w x = (q : Want) → listed q w + (k.tokens q + k.waiting q) ≡ listed q v + (x.tokens q + x.waiting q)
 
+  -- the tokens of each list are those given and not taken
+  abbrev pub Given : (s : St T) → Keeps s → View T → View T → Next T → Type 0
+  Given s k v w x = (q : Want) → tokens_given q w + (k.tokens q + tokens_taken q v)
+      ≡ tokens_given q v + (x.tokens q + tokens_taken q w)
+
   pub record Keeping (s : St T) (k : Keeps s) (i : ℕ) (v w : View T) (x : Next T) : Type 0 where
     pub words : x.words ≡ (drawn x.history + 9223372036854775808 * x.cut) ∷ taken x.history
         ∷ (x.tokens Values + 4294967296 * x.waiting Values) ∷ (x.tokens Room + 4294967296 * x.waiting Room) ∷ x.states
     pub narrow : (q : Want) → x.tokens q < 4294967296
     pub counted : Counts s k v w x
+    pub given : Given s k v w x
     pub laws : Laws s k v w x
     pub sized : (length x.states ≡ k.size) × (length x.homes ≡ k.size)
     pub small : drawn x.history ≤ 4611686018427387904
@@ -79,6 +88,7 @@ module _ {T : Type 0} where
     pub halves : (j : ℕ) (half : Half T) → j ≢ i → HalfFits k.history k.size k.states j half
         → HalfFits x.history k.size x.states j half
     pub own : Fits x.history k.size x.states x.cut k.hub k.roll i w
+    pub walk : Walks k.walk x.walk x.history k.size i w
 
   -- what a pass saw stays true
   sight_kept : (s : St T) (k : Keeps s) (i : ℕ) (v w : View T) (x : Next T) → Keeping s k i v w x → (y : Sight)
@@ -127,13 +137,18 @@ module _ {T : Type 0} where
       let c₀ = was.counted in
       let c₁ = o.counted q in
       let counted' : total (listed q) views' ≡ x.tokens q + x.waiting q = omega arith in
+      let g = total_set (tokens_given q) s.views i v w at in
+      let t = total_set (tokens_taken q) s.views i v w at in
+      let g₀ = was.given in
+      let g₁ = o.given q in
+      let given' : total (tokens_given q) views' ≡ x.tokens q + total (tokens_taken q) views' = omega arith in
       let under = asleep_listed q views' in
       let laws' = o.laws q (total (sleeping q) s.views) (total (owed q) s.views) (total (closing q) s.views)
       (total (sleeping q) views') (total (owed q) views') (total (closing q) views')
       (total_set (sleeping q) s.views i v w at) (total_set (owed q) s.views i v w at)
       (total_set (closing q) s.views i v w at)
       (omega arith) was.quiet was.shut in
-      record { narrow = o.narrow q; counted = counted'; quiet = laws'.0; shut = laws'.1 }
+      record { narrow = o.narrow q; counted = counted'; given = given'; quiet = laws'.0; shut = laws'.1 }
 
   pub moved : (s : St T) (k : Keeps s) (i : ℕ) (v w : View T) (x : Next T) → get_elem? s.views i ≡ some v
       → Keeping s k i v w x → Keeps (after s x i w)
@@ -154,6 +169,14 @@ module _ {T : Type 0} where
         small = o.small;
         cutter = o.cutter;
         within = o.within;
+        walk = x.walk;
+        walked = o.walk.walked;
+        true_ = o.walk.true_;
+        looks = λ j u e r. ⊎_elim
+            (λ (t : (j ≡ i) × (w ≡ u)). subst (λ (y : ℕ × View T). Looks k.size x.walk y.0 y.1.sight)
+            (λ z. (sym t.0 z, t.1 z)) (o.walk.own (ap (λ (y : View T). y.role) t.1 ∙ r)))
+            (λ (t : (j ≢ i) × (get_elem? s.views j ≡ some u)). o.walk.others j u.sight t.0 (k.looks j u t.1 r))
+            (at_set s.views i j w u e);
         undrawn = o.undrawn;
         waits = o.waits;
         taken_ = o.taken_;
@@ -171,7 +194,14 @@ module _ {T : Type 0} where
         newborn = λ j long. (
             let apart : j ≢ i = λ q. omega arith in
             let nb = k.newborn j (omega arith) in
-            ((o.same j apart).0 ∙ nb.0, (o.same j apart).1 ∙ nb.1, (o.same j apart).2 ∙ nb.2)
+            let none_ = o.walk.others j blind apart
+            ((sym nb.3, λ some_. absurd (omega arith)), (sym nb.4, λ some_. absurd (omega arith))) in (
+              (o.same j apart).0 ∙ nb.0,
+              (o.same j apart).1 ∙ nb.1,
+              (o.same j apart).2 ∙ nb.2,
+              sym none_.0.0,
+              sym none_.1.0,
+            )
             );
         fits = λ j u e. ⊎_elim
             (λ (t : (j ≡ i) × (w ≡ u)). subst
@@ -190,10 +220,12 @@ module _ {T : Type 0} where
         ∷ (x.tokens Values + 4294967296 * x.waiting Values) ∷ (x.tokens Room + 4294967296 * x.waiting Room) ∷ k.states
     pub narrow : (q : Want) → x.tokens q < 4294967296
     pub counted : Counts s k v w x
+    pub given : Given s k v w x
     pub role : w.role ≡ v.role
     pub out_ : w.out ≡ v.out
     pub half : w.half ≡ v.half
     pub own : Fits k.history k.size k.states k.cut k.hub k.roll i w
+    pub walk : Walks k.walk x.walk k.history k.size i w
     pub laws : Laws s k v w (still s k x)
 
   pub steady : (s : St T) (k : Keeps s) (i : ℕ) (v w : View T) (x : Next T) → get_elem? s.views i ≡ some v
@@ -202,6 +234,7 @@ module _ {T : Type 0} where
     words = o.words;
     narrow = o.narrow;
     counted = o.counted;
+    given = o.given;
     laws = o.laws;
     sized = (k.sized.0, k.sized.1);
     small = k.small;
@@ -227,21 +260,38 @@ module _ {T : Type 0} where
     roll = λ as_ m. m;
     halves = λ j half ne f. f;
     own = o.own;
+    walk = o.walk;
   }
 
+  -- what the pass of a step saw of the walk before, if it did not look
+  pub looked_still : (s : St T) (k : Keeps s) (i : ℕ) (v w : View T) → get_elem? s.views i ≡ some v
+      → w.role ≡ v.role → only_looks w.sight ≡ only_looks v.sight → w.role ≡ Member → Looks k.size k.walk i w.sight
+  looked_still s k i v w at ro si r =
+      subst (λ (x : Sight). Looks k.size k.walk i x) (sym si) (k.looks i v at (sym ro ∙ r))
+
+  -- a step that is no event of the walk
+  pub no_event : (s : St T) (k : Keeps s) (i : ℕ) (v w : View T) → get_elem? s.views i ≡ some v → w.role ≡ v.role
+      → only_looks w.sight ≡ only_looks v.sight → Walks k.walk k.walk k.history k.size i w
+  no_event s k i v w at ro si =
+      silent k.walk k.history k.size i w (looked_still s k i v w at ro si) k.walked k.true_
+
   -- the same where no word changes
-  pub settled : (s : St T) (k : Keeps s) (i : ℕ) (v w : View T) → get_elem? s.views i ≡ some v
-      → ((q : Want) → listed q w ≡ listed q v) → w.role ≡ v.role → w.out ≡ v.out → w.half ≡ v.half
-      → Fits k.history k.size k.states k.cut k.hub k.roll i w → Laws s k v w (now s k)
+  pub settled : (s : St T) (k : Keeps s) (i : ℕ) (v w : View T) (walk : List Event) → get_elem? s.views i ≡ some v
+      → Walks k.walk walk k.history k.size i w → ((q : Want) → listed q w ≡ listed q v) → w.role ≡ v.role
+      → w.out ≡ v.out → w.half ≡ v.half
+      → w.tokens ≡ v.tokens → Fits k.history k.size k.states k.cut k.hub k.roll i w → Laws s k v w (now s k)
       → Keeps record { words = s.words; homes = s.homes; views = slice_set s.views i w }
-  settled s k i v w at li ro ou ha own laws = steady s k i v w (now s k) at record {
+  settled s k i v w walk at ev li ro ou ha to own laws = steady s k i v w record (now s k) { walk = walk } at record {
     words = k.words;
     narrow = λ q. (k.lists q).narrow;
     counted = λ q. let e = li q in omega arith;
+    given = λ q. ap (λ (t : Tallies). (tally q t).gave + (k.tokens q + (tally q v.tokens).took)) to
+        ∙ ap (λ (t : Tallies). (tally q v.tokens).gave + (k.tokens q + (tally q t).took)) (sym to);
     role = ro;
     out_ = ou;
     half = ha;
     own = own;
+    walk = ev;
     laws = laws;
   }
 

@@ -4,6 +4,7 @@ pub mod Turns
 pub mod Totals
 pub mod Halves
 pub mod Sleep
+pub mod Walks
 pub mod Kept
 pub mod Loads
 pub mod Laps
@@ -17,6 +18,8 @@ pub mod EmptyMoves
 pub mod CutMoves
 pub mod ListMoves
 pub mod PassMoves
+pub mod BackMoves
 pub mod Places
+pub mod Looks
 pub mod Endings
 pub mod SendMoves

@@ -2,13 +2,14 @@
 use Rattle.mb_ring.proofs.Base.{Act, Allows, List, Option, Valid, ap, arith, carried_after, either, exchanged}
 use Rattle.mb_ring.proofs.Base.{get_elem?, keeps, length, refl, set_again, slice_index, slice_set, some}
 use Rattle.mb_ring.proofs.Base.{stepped, subst, sym, ℕ, ◌*◌, ◌+◌, ◌<◌, ◌==◌, ◌∙◌, ◌≡◌, ◌≢◌, ◌≤◌}
-use Rattle.mb_ring.specs.Vocabulary.{Duties, Duty, Fits, History, IsAwaited, Keeps, Member, Room, Sat, Sight}
-use Rattle.mb_ring.specs.Vocabulary.{SightFits, Taken, Undrawn, Values, View, Waiting, Want, drawn, free}
-use Rattle.mb_ring.specs.Vocabulary.{in_list, list_word, member, no_duties, on, part, ready, taken, with_duty}
+use Rattle.mb_ring.specs.Vocabulary.{AreTrue, Duties, Duty, Event, Fits, History, IsAwaited, Keeps, Member, Room, Sat, Sight}
+use Rattle.mb_ring.specs.Vocabulary.{SightFits, Taken, Tallies, Undrawn, Values, View, Waiting, Want, drawn, free}
+use Rattle.mb_ring.specs.Vocabulary.{in_list, list_word, no_duties, on, part, ready, taken, with_duty}
 use Rattle.mb_segment.specs.Passes.{no_duty}
 use Rattle.mb_ring.proofs.Sleep.{Law}
 use Rattle.mb_ring.proofs.Halves.{no_part}
-use Rattle.mb_ring.proofs.Kept.{St, after, at_rest, now, one_listed, one_owes, settled}
+use Rattle.mb_ring.proofs.Walks.{Looks, Walks, only_looks}
+use Rattle.mb_ring.proofs.Kept.{St, at_rest, no_event, now, one_listed, one_owes, settled}
 use lib.Seq.{set-get_or}
 
 module _ {T : Type 0} where
@@ -24,8 +25,9 @@ module _ {T : Type 0} where
       absurd (omega arith)
 
   pub refit : (h : History T) (n : ℕ) (states : List ℕ) (cut hub : ℕ) (roll : List ℕ) (i : ℕ) (v : View T) (d : Duties)
-      → StaysIdle v d → Fits h n states cut hub roll i v → Fits h n states cut hub roll i record v { duty = d }
-  refit h n states cut hub roll i v d idle f = record {
+      (t : Tallies) → StaysIdle v d → Fits h n states cut hub roll i v
+      → Fits h n states cut hub roll i record v { duty = d; tokens = t }
+  refit h n states cut hub roll i v d t idle f = record {
     member = λ r. let m = f.member r in
         record { sent = m.sent; got = m.got; cut = m.cut; no_hub = m.no_hub; not_back = m.not_back };
     hub_ = λ r. let m = f.hub_ r in
@@ -66,28 +68,42 @@ module _ {T : Type 0} where
       (sym (set-get_or s.words j 0)) k
 
   pub sees : (s : St T) (k : Keeps s) (j i : ℕ) (v : View T) → get_elem? s.views i ≡ some v
-      → (c : List (ℕ × Option T)) (x : Sight) → SightFits k.history k.size k.states k.cut x
-      → v.sight.low ≤ x.low
+      → (c : List (ℕ × Option T)) (x : Sight) → only_looks x ≡ only_looks v.sight
+      → SightFits k.history k.size k.states k.cut x → v.sight.low ≤ x.low
       → Keeps (stepped s j (slice_index s.words j) i c record v { sight = x } keeps)
-  sees s k j i v at c x y low =
-      loaded s j i c record v { sight = x } (settled s k i v record v { sight = x } at (λ q. refl) refl refl refl
+  sees s k j i v at c x si y low =
+      let w : View T = record v { sight = x } in
+      loaded s j i c w (settled s k i v w k.walk at (no_event s k i v w at refl si) (λ q. refl) refl refl refl refl
       (sighted k.history k.size k.states k.cut k.hub k.roll i v x (k.fits i v at) y low)
-      (at_rest s k v record v { sight = x } (now s k) refl refl refl refl))
+      (at_rest s k v w (now s k) refl refl refl refl))
 
   -- a load after which the pass saw something more, and owes other things for one list
-  pub pays : (s : St T) (k : Keeps s) (j i : ℕ) (v : View T) → get_elem? s.views i ≡ some v
-      → (c : List (ℕ × Option T)) (q : Want) (f : Duty → Duty) (x : Sight) → StaysIdle v (on q f v.duty)
+  pub pays_at : (s : St T) (k : Keeps s) (j i : ℕ) (v : View T) (walk : List Event) → get_elem? s.views i ≡ some v
+      → (c : List (ℕ × Option T)) (q : Want) (f : Duty → Duty) (x : Sight)
+      → Walks k.walk walk k.history k.size i record v { duty = on q f v.duty; sight = x }
+      → StaysIdle v (on q f v.duty)
       → in_list (f (part q v.duty)) ≡ in_list (part q v.duty)
       → Law (part q v.duty) (f (part q v.duty)) (ready q k.history k.size k.cut) (ready q k.history k.size k.cut)
       (free k.cut 1) (free k.cut 1) (k.tokens q) (k.tokens q) (k.waiting q)
       → SightFits k.history k.size k.states k.cut x → v.sight.low ≤ x.low
       → Keeps (stepped s j (slice_index s.words j) i c record v { duty = on q f v.duty; sight = x } keeps)
-  pays s k j i v at c q f x idle li law y low =
+  pays_at s k j i v walk at c q f x ev idle li law y low =
       let w : View T = record v { duty = on q f v.duty; sight = x } in
-      loaded s j i c w (settled s k i v w at (one_listed v q f li) refl refl refl
+      loaded s j i c w (settled s k i v w walk at ev (one_listed v q f li) refl refl refl refl
       (sighted k.history k.size k.states k.cut k.hub k.roll i (with_duty q f v) x
-      (refit k.history k.size k.states k.cut k.hub k.roll i v (on q f v.duty) idle (k.fits i v at)) y low)
+      (refit k.history k.size k.states k.cut k.hub k.roll i v (on q f v.duty) v.tokens idle (k.fits i v at)) y low)
       (one_owes s k v q f law))
+
+  -- the same, where it is no event of the walk
+  pub pays : (s : St T) (k : Keeps s) (j i : ℕ) (v : View T) → get_elem? s.views i ≡ some v
+      → (c : List (ℕ × Option T)) (q : Want) (f : Duty → Duty) (x : Sight) → only_looks x ≡ only_looks v.sight
+      → StaysIdle v (on q f v.duty) → in_list (f (part q v.duty)) ≡ in_list (part q v.duty)
+      → Law (part q v.duty) (f (part q v.duty)) (ready q k.history k.size k.cut) (ready q k.history k.size k.cut)
+      (free k.cut 1) (free k.cut 1) (k.tokens q) (k.tokens q) (k.waiting q)
+      → SightFits k.history k.size k.states k.cut x → v.sight.low ≤ x.low
+      → Keeps (stepped s j (slice_index s.words j) i c record v { duty = on q f v.duty; sight = x } keeps)
+  pays s k j i v at c q f x si = pays_at s k j i v k.walk at c q f x
+      (no_event s k i v record v { duty = on q f v.duty; sight = x } at refl si)
 
   pub stays : (s : St T) (k : Keeps s) (j i : ℕ) (v : View T) → get_elem? s.views i ≡ some v
       → (c : List (ℕ × Option T))
@@ -115,6 +131,11 @@ module _ {T : Type 0} where
     small = k.small;
     cutter = k.cutter;
     within = subst (λ m. drawn k.history ≤ taken k.history + m) q k.within;
+    walk = k.walk;
+    walked = k.walked;
+    true_ = subst (λ m. AreTrue m k.walk) q k.true_;
+    looks = subst (λ m. (i : ℕ) (v : View T) → get_elem? s.views i ≡ some v → v.role ≡ Member
+        → Looks m k.walk i v.sight) q k.looks;
     lists = subst (λ m. (p : Want) → IsAwaited s.views p (ready p k.history m k.cut) (free k.cut 1) (k.tokens p)
         (k.waiting p)) q k.lists;
     undrawn = subst (λ m. Undrawn k.history m k.states s.homes) q k.undrawn;

@@ -1,7 +1,7 @@
 -- The loads of the words of slots and of the number claimed keep the rule.
 use Rattle.mb_ring.proofs.Base.{Allows, None, Option, Some, ap, arith, dec_le, dec_lt, get_elem?}
 use Rattle.mb_ring.proofs.Base.{keeps, none, refl, slice_index, some, step, subst, suc, ℕ}
-use Rattle.mb_ring.proofs.Base.{◌%◌, ◌*◌, ◌+◌, ◌-◌, ◌<◌, ◌≡◌, ◌≤◌}
+use Rattle.mb_ring.proofs.Base.{◌%◌, ◌*◌, ◌+◌, ◌<◌, ◌≡◌, ◌≤◌}
 use Rattle.mb_segment.proofs.Spots.{same_some}
 use Rattle.mb_ring.specs.Vocabulary.{Keeps, Sat}
 use Rattle.mb_ring.specs.Vocabulary.{free, mark_in}
@@ -39,7 +39,7 @@ module _ {T : Type 0} where
             sees_room p me.0,
             keeps,
             tt,
-            sees s k j i me.0 at me.1 record me.0.sight { room = Some p } record {
+            sees s k j i me.0 at me.1 record me.0.sight { room = Some p } refl record {
               low = f.low;
               top = f.top;
               room = λ q e. let q' : p ≡ q = same_some p q e in
@@ -79,7 +79,7 @@ module _ {T : Type 0} where
             sees_mark p me.0,
             keeps,
             tt,
-            sees s k j i me.0 at me.1 record me.0.sight { ripe = Some p } record {
+            sees s k j i me.0 at me.1 record me.0.sight { ripe = Some p } refl record {
               low = f.low;
               top = f.top;
               room = f.room;
@@ -116,7 +116,7 @@ module _ {T : Type 0} where
         sees_taken r me.0,
         keeps,
         tt,
-        sees s k 1 i me.0 at me.1 record me.0.sight { low = r } record {
+        sees s k 1 i me.0 at me.1 record me.0.sight { low = r } refl record {
           low = omega arith;
           top = f.top;
           room = f.room;

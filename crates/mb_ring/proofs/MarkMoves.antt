@@ -9,7 +9,7 @@ use Rattle.mb_ring.specs.Vocabulary.{Entry, Half, HalfFits, Homes, IsTaken, Keep
 use Rattle.mb_ring.specs.Vocabulary.{View, Waiting, Waits, Writes, all_entries, drawn, ended, ending, spot, turn}
 use Rattle.mb_ring.proofs.Turns.{next_lap, one_slot, turn_else, turn_here}
 use Rattle.mb_ring.proofs.Halves.{half_else}
-use Rattle.mb_ring.proofs.Kept.{Next, St, at_rest, moved}
+use Rattle.mb_ring.proofs.Kept.{Next, St, at_rest, moved, no_event}
 use Rattle.mb_ring.proofs.Loads.{resized, steps}
 
 -- pass i marks the position that it drew: the turn is then 2 p + 1
@@ -146,6 +146,7 @@ module _ {T : Type 0} where
         tokens = k.tokens;
         waiting = k.waiting;
         cut = k.cut;
+        walk = k.walk;
       } in
       let t = mark_turns s k i v w at p half y y_is in (
         w,
@@ -160,6 +161,7 @@ module _ {T : Type 0} where
               words = λ z. slice_set (k.words z) (jj z) y;
               narrow = λ q. (k.lists q).narrow;
               counted = λ q. refl;
+              given = λ q. refl;
               laws = at_rest s k v w x' refl refl refl refl;
               sized = (m₀ ∙ k.sized.0, m₁ ∙ k.sized.1);
               small = k.small;
@@ -180,6 +182,7 @@ module _ {T : Type 0} where
               idle = k.idle;
               roll = λ as_ m. m;
               halves = mark_halves s k i v w at p half y y_is;
+              walk = no_event s k i v w at refl refl;
               own = record {
                 member = λ r. let m = fit.member r in record
                     { sent = m.sent; got = m.got; cut = m.cut; no_hub = m.no_hub; not_back = m.not_back };

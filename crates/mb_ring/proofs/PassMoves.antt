@@ -1,17 +1,19 @@
--- A new ring meets the rule. The hub issues passes and takes them back, and the rule holds.
-use Rattle.mb_ring.proofs.Base.{Joins, List, None, Splits, [], ap, arith, at_longer, at_set, get_elem?, inl, inr, length, length-append, opening}
-use Rattle.mb_ring.proofs.Base.{refl, replicate, slice_index, slice_set, some, some-injective, some-ne-none, subst, suc, sym, true≢false, zero}
-use Rattle.mb_ring.proofs.Base.{ℕ, ⊎_elim, ◌%◌, ◌*◌, ◌++◌, ◌+◌, ◌-◌, ◌<◌, ◌∙◌, ◌∷◌, ◌≡◌, ◌≢◌}
+-- A new ring meets the rule. The hub issues passes, and the rule holds.
+use Rattle.mb_ring.proofs.Base.{List, None, Splits, [], ap, arith, at_longer, at_set, get_elem?, inl, inr, length, length-append, opening}
+use Rattle.mb_ring.proofs.Base.{refl, replicate, slice_index, slice_set, some, some-injective, some-ne-none, subst, suc, sym, true≢false}
+use Rattle.mb_ring.proofs.Base.{zero, ℕ, ⊎_elim, ◌%◌, ◌*◌, ◌++◌, ◌+◌, ◌<◌, ◌∙◌, ◌∷◌, ◌≡◌, ◌≢◌}
 use Rattle.std.proofs.lemmas.Nat.{mod_below}
 use Rattle.std.proofs.Math.Nat.{mod-eq_of_lt}
-use Rattle.mb_segment.proofs.Spots.{below_length, index_at, map_length, no_some, replicate_at, replicate_length, size_set, snoc_at}
-use Rattle.mb_segment.proofs.Halves.{either_over, empty_slots, hub_is_no_member, hub_is_not_spent, no_hub, spent_is_no_member}
-use Rattle.mb_ring.specs.Vocabulary.{Fits, Half, HasHalf, History, In, IsMember, Issuer, Keeps, Match, Member, Nothing, Reads, Role, Spent}
-use Rattle.mb_ring.specs.Vocabulary.{View, Writes, blank, if_hub, issued, member, new_hub, one_if_member, out, spent, spot, took_back, total, turn}
-use Rattle.mb_ring.specs.Vocabulary.{Duty, IsAwaited, Room, Values, Want, closing, debts, free, in_list, listed, no_duties, owed, part, ready, sleeping}
-use Rattle.mb_ring.proofs.Totals.{below_total, one_in_total, total_set, total_snoc}
+use Rattle.mb_segment.proofs.Spots.{index_at, map_length, no_some, replicate_at, replicate_length, size_set, snoc_at}
+use Rattle.mb_segment.proofs.Halves.{empty_slots, hub_is_no_member, hub_is_not_spent, no_hub, spent_is_no_member}
+use Rattle.mb_ring.specs.Vocabulary.{Fits, Half, HasHalf, History, In, IsMember, Issuer, Keeps, Match, Member, Reads, Role, Spent, View}
+use Rattle.mb_ring.specs.Vocabulary.{Writes, blank, if_hub, issued, member, new_hub, out, spot, total, turn, Duty, IsAwaited, Room, Values}
+use Rattle.mb_ring.specs.Vocabulary.{Want, closing, debts, free, in_list, listed, owed, ready, sleeping, Tokens, no_tallies, tally}
+use Rattle.mb_ring.specs.Vocabulary.{tokens_given, tokens_taken}
+use Rattle.mb_segment.specs.Passes.{no_tokens}
+use Rattle.mb_ring.proofs.Totals.{total_set, total_snoc}
 use Rattle.mb_ring.proofs.Halves.{half_stays, no_part}
-use Rattle.mb_ring.proofs.Kept.{St}
+use Rattle.mb_ring.proofs.Walks.{Looks}
 use Rattle.atomic_table.proofs.Lists.{at_map}
 
 -- the turn of a slot in the first lap, before anything is drawn
@@ -21,21 +23,27 @@ first_turn n k some_ lt =
     let z : slice_index (replicate n 0) (k % n) ≡ 0
     = index_at (replicate n 0) (k % n) 0 (replicate_at n 0 (k % n) (mod_below k n some_)) in omega arith
 
+pub no_tally : (q : Want) → tally q no_tallies ≡ no_tokens
+no_tally Values = refl
+no_tally Room = refl
+
 module _ {T : Type 0} where
   -- the laws of a list hold for other views with the same sums
-  same_sums : (q : Want) (vs ws : List (View T)) (goods open_ tokens waiting : ℕ)
+  pub same_sums : (q : Want) (vs ws : List (View T)) (goods open_ tokens waiting : ℕ)
       → IsAwaited vs q goods open_ tokens waiting → total (listed q) ws ≡ total (listed q) vs
       → total (sleeping q) ws ≡ total (sleeping q) vs → total (owed q) ws ≡ total (owed q) vs
-      → total (closing q) ws ≡ total (closing q) vs → IsAwaited ws q goods open_ tokens waiting
-  same_sums q vs ws goods open_ tokens waiting k e₀ e₁ e₂ e₃ = let c = k.counted in record {
+      → total (closing q) ws ≡ total (closing q) vs → total (tokens_given q) ws ≡ total (tokens_given q) vs
+      → total (tokens_taken q) ws ≡ total (tokens_taken q) vs → IsAwaited ws q goods open_ tokens waiting
+  same_sums q vs ws goods open_ tokens waiting k e₀ e₁ e₂ e₃ e₄ e₅ = let c = k.counted in let g = k.given in record {
     narrow = k.narrow;
     counted = omega arith;
+    given = omega arith;
     quiet = ⊎_elim (λ x. inl (omega arith)) (λ x. inr (omega arith)) k.quiet;
     shut = ⊎_elim (λ x. inl (omega arith)) (λ x. inr (omega arith)) k.shut;
   }
 
   -- a view of a pass that did nothing, or of one that came back, saw nothing
-  unseen : (h : History T) (n : ℕ) (states : List ℕ) (cut hub : ℕ) (roll : List ℕ) (i : ℕ) (r : Role)
+  pub unseen : (h : History T) (n : ℕ) (states : List ℕ) (cut hub : ℕ) (roll : List ℕ) (i : ℕ) (r : Role)
       → (r ≡ Member → IsMember h hub roll i blank) → (r ≡ Issuer → (i ≡ hub) × Match h roll [])
       → (r ≡ Spent → In i roll) → Fits h n states cut hub roll i record blank { role = r }
   unseen h n states cut hub roll i r is_member hub_ back = record {
@@ -82,15 +90,29 @@ module _ {T : Type 0} where
         cut = 0;
         words = refl;
         lists = elim [
-          | Values ↦ record
-              { narrow = omega arith; counted = refl; quiet = inl (omega arith); shut = inl (omega arith) }
-          | Room ↦ record
-              { narrow = omega arith; counted = refl; quiet = inl (omega arith); shut = inl (omega arith) }
+          | Values ↦ record {
+            narrow = omega arith;
+            counted = refl;
+            given = refl;
+            quiet = inl (omega arith);
+            shut = inl (omega arith);
+          }
+          | Room ↦ record {
+            narrow = omega arith;
+            counted = refl;
+            given = refl;
+            quiet = inl (omega arith);
+            shut = inl (omega arith);
+          }
         ];
         sized = (m₀, omega arith, some_);
         small = omega arith;
         cutter = refl;
         within = omega arith;
+        walk = [];
+        walked = (refl, refl);
+        true_ = tt;
+        looks = λ n v at r. absurd (hub_is_no_member (ap (λ (y : View T). y.role) (first_is n v at).1 ∙ r));
         undrawn = λ k le lt. inl (
           first_turn count k some_ (omega arith),
           at_map some (empty_slots T count) (k % count) None
@@ -105,7 +127,7 @@ module _ {T : Type 0} where
         rolled = λ n in_. absurd in_;
         known = omega arith;
         out_ = refl;
-        newborn = λ n l. (refl, refl, refl);
+        newborn = λ n l. (refl, refl, refl, refl, refl);
         fits = λ n v at. let f = first_is n v at in
             subst (λ (y : ℕ × View T). Fits unused count (replicate count 0) 0 0 [] y.0 y.1)
             (λ z. (f.0 z, f.1 z))
@@ -162,12 +184,31 @@ module _ {T : Type 0} where
             let z₁ : sleeping {T = T} q blank ≡ 0 = ap (λ (d : Duty). d.asleep) (no_part q) in
             let z₂ : owed {T = T} q blank ≡ 0 = ap debts (no_part q) in
             let z₃ : closing {T = T} q blank ≡ 0 = ap (λ (d : Duty). d.closing) (no_part q) in
+            let a₆ = total_set (tokens_given q) s.views n v w at in let b₆ = total_snoc (tokens_given q) one blank in
+            let a₇ = total_set (tokens_taken q) s.views n v w at in let b₇ = total_snoc (tokens_taken q) one blank in
+            let z₆ : tokens_given {T = T} q blank ≡ 0 = ap (λ (t : Tokens). t.gave) (no_tally q) in
+            let z₇ : tokens_taken {T = T} q blank ≡ 0 = ap (λ (t : Tokens). t.took) (no_tally q) in
             same_sums q s.views (one ++ blank ∷ []) (ready q k.history k.size k.cut) (free k.cut 1) (k.tokens q)
-            (k.waiting q) (k.lists q) (omega arith) (omega arith) (omega arith) (omega arith);
+            (k.waiting q) (k.lists q) (omega arith) (omega arith) (omega arith) (omega arith) (omega arith)
+            (omega arith);
         sized = k.sized;
         small = k.small;
         cutter = k.cutter;
         within = k.within;
+        walk = k.walk;
+        walked = k.walked;
+        true_ = k.true_;
+        looks = λ j u e r. ⊎_elim
+            (λ there_. ⊎_elim
+            (λ (t : (j ≡ n) × (w ≡ u)). absurd (no_hub u.role r (ap (λ (y : View T). y.role) (sym t.1) ∙ role)))
+            (λ (t : (j ≢ n) × (get_elem? s.views j ≡ some u)). k.looks j u t.1 r)
+            (at_set s.views n j w u there_))
+            (λ (t : (j ≡ length one) × (blank ≡ u)).
+            let l = t.0 in
+            let nb = k.newborn j (omega arith) in
+            subst (λ (y : View T). Looks k.size k.walk j y.sight) t.1
+            ((sym nb.3, λ some_. absurd (omega arith)), (sym nb.4, λ some_. absurd (omega arith))))
+            (snoc_at one blank u j e);
         undrawn = k.undrawn;
         waits = λ i e le e_at. ⊎_elim
             (λ z. inl (
@@ -214,163 +255,3 @@ module _ {T : Type 0} where
             (λ e. absurd (hub_is_no_member (sym e))) (λ e. absurd (spent_is_no_member (sym e)))))
             (snoc_at one blank u j e);
       }
-
-  -- ---- a pass comes back
-  -- only the hub has passes out
-  pub out_of_hub : (s : St T) (k : Keeps s) (n : ℕ) (v : View T) → get_elem? s.views n ≡ some v → v.role ≡ Issuer
-      → total out s.views ≡ v.out
-  out_of_hub s k n v at role =
-      one_in_total out s.views n v at (λ j u e ne. others u
-      (λ r. ne (((k.fits j u e).hub_ r).here ∙ sym ((k.fits n v at).hub_ role).here)))
-      ∙ ap (λ (r : Role). if_hub r v.out) role
-    where
-      others : (u : View T) → (u.role ≡ Issuer → ⊥) → out u ≡ 0
-      others u no_ = go u.role refl
-        where
-          go : (r : Role) → u.role ≡ r → if_hub u.role u.out ≡ 0
-          go Issuer e = absurd (no_ e)
-          go Member e = ap (λ (x : Role). if_hub x u.out) e
-          go Spent e = ap (λ (x : Role). if_hub x u.out) e
-
-  module _ (n : ℕ) (v : View T) (other : ℕ) (w : View T) (v_role : v.role ≡ Issuer) (w_role : w.role ≡ Member)
-      (w_half : w.half ≡ Nothing) (w_duty : w.duty ≡ no_duties) (s : St T) (k : Keeps s)
-      (at : get_elem? s.views n ≡ some v) (apart : ¬ (other ≡ n))
-      (at_other : get_elem? (slice_set s.views n (took_back v w)) other ≡ some w) where
-    abbrev one : List (View T)
-    one = slice_set s.views n (took_back v w)
-
-    abbrev two : List (View T)
-    two = slice_set one other spent
-
-    was_other : get_elem? s.views other ≡ some w
-    was_other = ⊎_elim (λ (t : (other ≡ n) × (took_back v w ≡ w)). absurd (apart t.0))
-        (λ (t : (other ≢ n) × (get_elem? s.views other ≡ some w)). t.1)
-        (at_set s.views n other (took_back v w) w at_other)
-
-    was_member : IsMember k.history k.hub k.roll other w
-    was_member = (k.fits other w was_other).member w_role
-
-    half_joins : (j : ℕ) (half : Half T) → HasHalf s.views j half → HasHalf two j half
-    half_joins j half h = half_stays one other w spent at_other (sym w_half) j half
-        (half_stays s.views n v (took_back v w) at refl j half h)
-
-    fits_joined : (j : ℕ) (u : View T) → get_elem? two j ≡ some u → Fits k.history k.size k.states k.cut k.hub
-        (other ∷ k.roll) j u
-    fits_joined j u e = ⊎_elim
-        (λ (t : (j ≡ other) × (spent ≡ u)).
-        subst (λ (y : ℕ × View T). Fits k.history k.size k.states k.cut k.hub (other ∷ k.roll) y.0 y.1)
-        (λ z. (sym t.0 z, t.1 z))
-        (unseen k.history k.size k.states k.cut k.hub (other ∷ k.roll) other Spent
-        (λ r. absurd (spent_is_no_member r))
-        (λ r. absurd (hub_is_not_spent Spent r refl)) (λ _. inl refl)))
-        (λ (t : (j ≢ other) × (get_elem? one j ≡ some u)). ⊎_elim
-        (λ (z : (j ≡ n) × (took_back v w ≡ u)).
-        subst (λ (y : ℕ × View T). Fits k.history k.size k.states k.cut k.hub (other ∷ k.roll) y.0 y.1)
-        (λ y. (sym z.0 y, z.1 y)) hub_fits)
-        (λ (z : (j ≢ n) × (get_elem? s.views j ≡ some u)). other_fits t.0 z.0 (k.fits j u z.1))
-        (at_set s.views n j (took_back v w) u t.1))
-        (at_set one other j spent u e)
-      where
-        hub_fits : Fits k.history k.size k.states k.cut k.hub (other ∷ k.roll) n (took_back v w)
-        hub_fits = let f = k.fits n v at in let h = f.hub_ v_role in record {
-          member = λ r. absurd (no_hub v.role r v_role);
-          hub_ = λ _. record {
-            here = h.here;
-            ends = (was_member.sent, was_member.got, was_member.cut, h.ends);
-            nothing = h.nothing;
-            idle = h.idle;
-          };
-          back = λ r. absurd (hub_is_not_spent v.role v_role r);
-          debt = f.debt;
-          half = f.half;
-          sight = f.sight;
-          heard = let g = (k.fits other w was_other).heard in
-              (f.heard.0, f.heard.1, (f.heard.2.0, f.heard.2.1, (g.2.0, g.2.1, f.heard.2.2)));
-          over = λ on. ⊎_elim f.over (k.fits other w was_other).over (either_over v.over w.over on);
-          last = λ r. absurd (no_hub v.role r v_role);
-        }
-
-        other_fits : j ≢ other → j ≢ n → Fits k.history k.size k.states k.cut k.hub k.roll j u
-            → Fits k.history k.size k.states k.cut k.hub (other ∷ k.roll) j u
-        other_fits ne_other ne_hub f = record {
-          member = λ r. let m = f.member r in record {
-            sent = m.sent;
-            got = m.got;
-            cut = m.cut;
-            no_hub = m.no_hub;
-            not_back = λ in_. ⊎_elim (λ q. ne_other q) m.not_back in_;
-          };
-          hub_ = λ r. absurd (ne_hub ((f.hub_ r).here ∙ sym ((k.fits n v at).hub_ v_role).here));
-          back = λ r. let b = f.back r in (inr b.0, b.1, b.2, b.3);
-          debt = f.debt;
-          half = f.half;
-          sight = f.sight;
-          heard = f.heard;
-          over = f.over;
-          last = f.last;
-        }
-
-    joined : Keeps record { words = s.words; homes = s.homes; views = two }
-    joined =
-        let many = size_set s.views n (took_back v w) in
-        let many₁ = size_set one other spent in
-        let below = below_length s.views other w was_other in
-        let a₄ = total_set member s.views n v (took_back v w) at in
-        let b₄ = total_set member one other w spent at_other in
-        let a₅ = total_set out s.views n v (took_back v w) at in
-        let b₅ = total_set out one other w spent at_other in
-        let w₄ : member w ≡ 1 = ap one_if_member w_role in
-        let w₅ : out w ≡ 0 = ap (λ (r : Role). if_hub r w.out) w_role in
-        let o₀ : out (took_back v w) ≡ v.out - 1 = ap (λ (r : Role). if_hub r (v.out - 1)) v_role in
-        let o₁ : out v ≡ v.out = ap (λ (r : Role). if_hub r v.out) v_role in
-        let mine = below_total member s.views other w was_other in
-        let all = out_of_hub s k n v at v_role in
-        let o = k.out_ in
-        record {
-          history = k.history;
-          states = k.states;
-          size = k.size;
-          tokens = k.tokens;
-          waiting = k.waiting;
-          cut = k.cut;
-          words = k.words;
-          lists = λ q.
-              let a₀ = total_set (listed q) s.views n v (took_back v w) at in
-              let b₀ = total_set (listed q) one other w spent at_other in
-              let a₁ = total_set (sleeping q) s.views n v (took_back v w) at in
-              let b₁ = total_set (sleeping q) one other w spent at_other in
-              let a₂ = total_set (owed q) s.views n v (took_back v w) at in
-              let b₂ = total_set (owed q) one other w spent at_other in
-              let a₃ = total_set (closing q) s.views n v (took_back v w) at in
-              let b₃ = total_set (closing q) one other w spent at_other in
-              let e₀ : part q w.duty ≡ part q no_duties = ap (part q) w_duty in
-              let w₀ : listed q w ≡ listed {T = T} q spent = ap in_list e₀ in
-              let w₁ : sleeping q w ≡ sleeping {T = T} q spent = ap (λ (d : Duty). d.asleep) e₀ in
-              let w₂ : owed q w ≡ owed {T = T} q spent = ap debts e₀ in
-              let w₃ : closing q w ≡ closing {T = T} q spent = ap (λ (d : Duty). d.closing) e₀ in
-              same_sums q s.views two (ready q k.history k.size k.cut) (free k.cut 1) (k.tokens q) (k.waiting q)
-              (k.lists q) (omega arith) (omega arith) (omega arith) (omega arith);
-          sized = k.sized;
-          small = k.small;
-          cutter = k.cutter;
-          within = k.within;
-          undrawn = k.undrawn;
-          waits = λ i e le e_at. ⊎_elim (λ z. inl (z.0, half_joins e.by (Writes (spot i e.value)) z.1))
-              (λ z. inr z) (k.waits i e le e_at);
-          taken_ = λ i c c_at. ⊎_elim (λ z. inl (z.0, half_joins c.to (Reads (spot i c.entry.value)) z.1))
-              (λ z. inr z) (k.taken_ i c c_at);
-          hub = k.hub;
-          roll = other ∷ k.roll;
-          idle = k.idle;
-          apart = (was_member.not_back, k.apart);
-          rolled = λ j in_. ⊎_elim (λ q. omega arith) (λ i. let b = k.rolled j i in omega arith) in_;
-          known = let b = k.known in omega arith;
-          out_ = omega arith;
-          newborn = λ j long. k.newborn j (omega arith);
-          fits = fits_joined;
-        }
-
-  pub joins : (n : ℕ) (v : View T) (other : ℕ) (w : View T) → v.role ≡ Issuer → w.role ≡ Member → w.half ≡ Nothing
-      → w.duty ≡ no_duties → Joins Keeps n v other w (took_back v w) spent
-  joins n v other w v_role w_role w_half w_duty s k at apart at_other =
-      joined n v other w v_role w_role w_half w_duty s k at apart at_other

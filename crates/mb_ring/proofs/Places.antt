@@ -1,6 +1,6 @@
 -- Who drew, claimed or cut.
 use Rattle.mb_ring.proofs.Base.{Bool, List, Option, Some, [], ap, arith, eq-eqb, false, get_elem?, inl, inr, length, refl, some, some-injective}
-use Rattle.mb_ring.proofs.Base.{some-ne-none, subst, suc, sym, true, true≢false, zero, ℕ, dec_lt, dite, ◌+◌, ◌-◌, ◌<◌, ◌∙◌, ◌∷◌, ◌≡◌, ◌≤◌, ◌⊎◌, ⊎_elim}
+use Rattle.mb_ring.proofs.Base.{some-ne-none, subst, suc, sym, true, true≢false, zero, ℕ, dec_le, dec_lt, dite, slice_index, ◌+◌, ◌-◌, ◌<◌, ◌∙◌, ◌∷◌, ◌≡◌, ◌≤◌, ◌⊎◌, ⊎_elim}
 use Rattle.mb_segment.proofs.Base.{if◌then◌else◌, nat_eq}
 use Rattle.mb_segment.proofs.Halves.{free_shut, hub_is_not_spent, no_hub}
 use Rattle.mb_segment.proofs.Places.{claimed_at, drawn_at, some_cutter}
@@ -150,10 +150,14 @@ module _ {T : Type 0} where
       let zero_ : k.cut ≡ 0 = dite (dec_lt 0 k.cut) (λ lt. absurd (open_ (omega arith))) (λ no_. omega arith) in
       ap (λ (c : ℕ). free c (k.size - length k.history.rest)) zero_
 
-  -- where one sleeps without a token, somebody owes a token to all, or the ring is open
+  -- where one sleeps without a token, the ring is cut, and somebody owes a token to all; or it is open
   pub goes_on : (s : St T) (k : Keeps s) (q : Want) → k.tokens q < total (sleeping q) s.views
-      → (0 < total (closing q) s.views) ⊎ (IsCut s → ⊥)
-  goes_on s k q few = dite (dec_lt 0 (total (closing q) s.views)) inl (λ none_. inr (λ cut.
-      let e = at0 s k in let m = k.small in
-      let shut_ : free k.cut 1 ≡ 0 = free_shut k.cut 1 (omega arith) in
-      ⊎_elim (λ x. absurd (omega arith)) (λ x. absurd (omega arith)) (k.lists q).shut))
+      → (((IsCut s → ⊥) → ⊥) × (0 < total (closing q) s.views)) ⊎ (IsCut s → ⊥)
+  goes_on s k q few = dite (dec_le 9223372036854775808 (slice_index s.words 0))
+      (λ cut. inl (
+        (λ open_. open_ cut),
+        let e = at0 s k in let m = k.small in
+            let shut_ : free k.cut 1 ≡ 0 = free_shut k.cut 1 (omega arith) in
+            ⊎_elim (λ x. absurd (omega arith)) (λ x. omega arith) (k.lists q).shut,
+      ))
+      inr

@@ -9,7 +9,7 @@ use Rattle.mb_ring.specs.Vocabulary.{Claim, Half, HalfFits, Homes, IsTaken, Keep
 use Rattle.mb_ring.specs.Vocabulary.{View, Waiting, Writes, ended, ending, spot, taken, turn}
 use Rattle.mb_ring.proofs.Turns.{next_lap, one_slot, other_slot, turn_else, turn_here}
 use Rattle.mb_ring.proofs.Halves.{half_else}
-use Rattle.mb_ring.proofs.Kept.{Next, St, at_rest, moved}
+use Rattle.mb_ring.proofs.Kept.{Next, St, at_rest, moved, no_event}
 use Rattle.mb_ring.proofs.Loads.{resized, steps}
 
 -- pass i has read the position that it claimed: the turn is then 2 (p + n), so that the slot is free for p + n
@@ -145,6 +145,7 @@ module _ {T : Type 0} where
         tokens = k.tokens;
         waiting = k.waiting;
         cut = k.cut;
+        walk = k.walk;
       } in
       let t = read_turns s k i v w at p half y y_is in (
         w,
@@ -159,6 +160,7 @@ module _ {T : Type 0} where
               words = λ z. slice_set (k.words z) (jj z) y;
               narrow = λ q. (k.lists q).narrow;
               counted = λ q. refl;
+              given = λ q. refl;
               laws = at_rest s k v w x' refl refl refl refl;
               sized = (m₀ ∙ k.sized.0, m₁ ∙ k.sized.1);
               small = k.small;
@@ -179,6 +181,7 @@ module _ {T : Type 0} where
               idle = k.idle;
               roll = λ as_ m. m;
               halves = read_halves s k i v w at p half y y_is;
+              walk = no_event s k i v w at refl refl;
               own = record {
                 member = λ r. let m = fit.member r in record
                     { sent = m.sent; got = m.got; cut = m.cut; no_hub = m.no_hub; not_back = m.not_back };

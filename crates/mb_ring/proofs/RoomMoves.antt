@@ -1,18 +1,19 @@
 -- The loads of senders keep the rule: of the number drawn, and of the number claimed after it.
-use Rattle.mb_ring.proofs.Base.{Allows, Bool, List, Some, [], ap, arith, dec_le, dec_lt, false, get_elem?, inl, inr}
+use Rattle.mb_ring.proofs.Base.{Allows, Bool, List, [], ap, arith, dec_le, dec_lt, false, get_elem?, inl, inr}
 use Rattle.mb_ring.proofs.Base.{keeps, length, none, refl, slice_index, some, step, subst, suc, sym, true, ℕ, ⊎_elim}
 use Rattle.mb_ring.proofs.Base.{◌+◌, ◌-◌, ◌<◌, ◌∙◌, ◌∷◌, ◌≡◌, ◌≤◌}
 use Rattle.mb_segment.proofs.Base.{if◌then◌else◌, nat_eq}
 use Rattle.mb_segment.proofs.Halves.{free_shut}
 use Rattle.mb_segment.proofs.Places.{is_cutter}
 use Rattle.mb_segment.proofs.Spots.{same_some}
-use Rattle.mb_ring.specs.Vocabulary.{Below, Claim, Duty, Fits, Issuer, Keeps, KnowsCut, Member, Role, Room, SawAllGot, Sat, Spent, Spot, View}
+use Rattle.mb_ring.specs.Vocabulary.{Below, Claim, Duty, Fits, FoundFull, Issuer, Keeps, KnowsCut, Member, Role, Room, SawAllGot, Sat, Spent, Spot, View}
 use Rattle.mb_ring.specs.Vocabulary.{asking, counting, done_with_all, dozes, drawn, free, gives_up, has_closed, in_list, looked, on}
 use Rattle.mb_ring.specs.Vocabulary.{ready, same, seeing_cut, sees_cut, sees_drawn, sees_full}
 use Rattle.mb_ring.specs.Vocabulary.{sees_taken, spot, spots_to, taken, with_duty}
 use Rattle.mb_ring.proofs.Sleep.{Law, free_none, law_rest}
+use Rattle.mb_ring.proofs.Walks.{finds_no_room}
 use Rattle.mb_ring.proofs.Kept.{St}
-use Rattle.mb_ring.proofs.Loads.{Goes, StaysIdle, at0, at1, owing, pays, sees, steps}
+use Rattle.mb_ring.proofs.Loads.{Goes, StaysIdle, at0, at1, owing, pays, pays_at, sees, steps}
 
 -- a step with this effect for room is right where no room is ready; or at any time; or while the ring is open
 abbrev IsPaid : {T : Type 0} → (Duty → Duty) → View T → Type 0
@@ -61,7 +62,7 @@ module _ {T : Type 0} where
         sees_cut (with_duty Room f me.0),
         keeps,
         tt,
-        pays s k 0 i me.0 at me.1 Room f record me.0.sight { cut = true } paid.0 paid.1
+        pays s k 0 i me.0 at me.1 Room f record me.0.sight { cut = true } refl paid.0 paid.1
             (subst (λ (r : ℕ). Law me.0.duty.room (f me.0.duty.room) r r (free k.cut 1) (free k.cut 1)
             (k.tokens Room) (k.tokens Room) (k.waiting Room)) none_
             (paid.2 (free k.cut 1) (k.tokens Room) (k.waiting Room))) record {
@@ -92,7 +93,7 @@ module _ {T : Type 0} where
             with_duty Room g me.0,
             keeps,
             tt,
-            pays s k 0 i me.0 at me.1 Room g me.0.sight open_.0 open_.1
+            pays s k 0 i me.0 at me.1 Room g me.0.sight refl open_.0 open_.1
                 (subst (λ (z : ℕ). Law me.0.duty.room (g me.0.duty.room) (ready Room k.history k.size k.cut)
                 (ready Room k.history k.size k.cut) z z (k.tokens Room) (k.tokens Room) (k.waiting Room)) one
                 (open_.2 (ready Room k.history k.size k.cut) (k.tokens Room) (k.waiting Room)))
@@ -104,7 +105,7 @@ module _ {T : Type 0} where
             sees_cut (with_duty Room f me.0),
             keeps,
             tt,
-            pays s k 0 i me.0 at me.1 Room f record me.0.sight { cut = true } cut.0 cut.1
+            pays s k 0 i me.0 at me.1 Room f record me.0.sight { cut = true } refl cut.0 cut.1
                 (cut.2 (ready Room k.history k.size k.cut) (free k.cut 1) (k.tokens Room) (k.waiting Room)) record {
                   low = y.low;
                   top = y.top;
@@ -157,7 +158,7 @@ module _ {T : Type 0} where
             sees_drawn (slice_index s.words 0) me.0,
             keeps,
             tt,
-            sees s k 0 i me.0 at me.1 record me.0.sight { top = slice_index s.words 0 } record {
+            sees s k 0 i me.0 at me.1 record me.0.sight { top = slice_index s.words 0 } refl record {
               low = y.low;
               top = omega arith;
               room = y.room;
@@ -193,7 +194,7 @@ module _ {T : Type 0} where
       go lt r false = r
 
   all_got : (s : St T) (k : Keeps s) (i : ℕ) (v : View T) → get_elem? s.views i ≡ some v → (r : ℕ)
-      → taken k.history ≡ r → SawAllGot (sees_full r v)
+      → taken k.history ≡ r → SawAllGot (sees_full r k.walk v)
   all_got s k i v at r is t e = subst (λ (m : ℕ). Below m v.account.got) (same_some r t e)
       (go (k.fits i v at) v.role refl)
     where
@@ -225,11 +226,12 @@ module _ {T : Type 0} where
           let w = k.within in
           let none_ : 0 ≡ ready Room k.history k.size k.cut
           = sym (ap (free k.cut) (all_full s k (omega arith)) ∙ free_none k.cut) in (
-            sees_full r (with_duty Room f me.0),
+            sees_full r k.walk (with_duty Room f me.0),
             keeps,
             tt,
-            pays s k 1 i me.0 at me.1 Room f
-                record me.0.sight { full = Some r; refused = me.0.sight.refused + 1 } paid.0 paid.1
+            pays_at s k 1 i me.0 (FoundFull i ∷ k.walk) at me.1 Room f (sees_full r k.walk me.0).sight
+                (finds_no_room k.walk k.history k.size i (with_duty Room f me.0) (k.looks i me.0 at) k.walked k.true_
+                (omega arith) r now_) paid.0 paid.1
                 (subst (λ (m : ℕ). Law me.0.duty.room (f me.0.duty.room) m m (free k.cut 1) (free k.cut 1)
                 (k.tokens Room) (k.tokens Room) (k.waiting Room)) none_
                 (paid.2 (free k.cut 1) (k.tokens Room) (k.waiting Room))) record {
@@ -242,7 +244,7 @@ module _ {T : Type 0} where
                   full = λ t e. let q : r ≡ t = same_some r t e in (omega arith, omega arith);
                 } (omega arith),
             (
-              (λ _. ((refl, refl), all_got s k i me.0 at r (sym now_))),
+              (λ _. (k.walk, (refl, refl), all_got s k i me.0 at r (sym now_))),
               (λ lt. absurd (omega arith)),
               omega arith,
               let a = (k.fits i me.0 at).heard.1 in omega arith,
@@ -258,7 +260,7 @@ module _ {T : Type 0} where
             sees_taken r me.0,
             keeps,
             tt,
-            sees s k 1 i me.0 at me.1 record me.0.sight { low = r } record {
+            sees s k 1 i me.0 at me.1 record me.0.sight { low = r } refl record {
               low = omega arith;
               top = y.top;
               room = y.room;

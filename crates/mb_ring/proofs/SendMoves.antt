@@ -1,8 +1,8 @@
 -- A send that waits in the list sends one value.
-use Rattle.mb_ring.proofs.Base.{ap, inl, inr, ℕ, ◌∙◌, ◌≡◌}
+use Rattle.mb_ring.proofs.Base.{ap, inl, inr, sym, true≢false, ℕ, ⊎_elim, ◌∙◌, ◌≡◌}
 use Rattle.mb_segment.proofs.Halves.{not_true}
 use Rattle.mb_ring.specs.Vocabulary.{KnowsCut, MaySend, Member, Room, Values, View, bare, blinded, calm, done, drew, ended, enters}
-use Rattle.mb_ring.specs.Vocabulary.{falls_asleep, has_woken, leaves, looked, owes_wake, sent_at, wakes_up, with_duty}
+use Rattle.mb_ring.specs.Vocabulary.{falls_asleep, has_woken, leaves, looked, owes_wake, sent_at, takes_token, uncounted, wakes_up, with_duty}
 
 module _ {T : Type 0} where
   -- nothing that it was told before loads rules a draw out, where nothing does after them
@@ -14,6 +14,11 @@ module _ {T : Type 0} where
     not_true v.over (λ e. never (inr (inl (ap (λ (u : View T). u.over) same ∙ e)))),
   )
 
+  -- what rules a draw out is known
+  pub knows_nothing : (v : View T) → MaySend v → KnowsCut v → ⊥
+  knows_nothing v may knows = ⊎_elim (λ e. true≢false (sym e ∙ may.0))
+      (⊎_elim (λ e. true≢false (sym e ∙ may.2)) (λ e. true≢false (sym e.1 ∙ may.1))) knows
+
   -- the calls of one turn, from the first draw of a send, which found the ring full, to the value given
   module _ (p : ℕ) (x : T) (start tried turn listed : View T)
       (full : blinded tried ≡ with_duty Room looked (blinded start))
@@ -23,17 +28,18 @@ module _ {T : Type 0} where
 
     pub sent_listed : (drawn_ given left : View T)
         → blinded drawn_ ≡ with_duty Room done (with_duty Values owes_wake (drew p x (blinded listed)))
-        → given ≡ with_duty Values has_woken (ended drawn_) → left ≡ with_duty Room leaves given
-        → blinded left ≡ sent_at p x (calm start)
+        → uncounted given ≡ uncounted (with_duty Values has_woken (ended drawn_))
+        → uncounted left ≡ uncounted (with_duty Room leaves given) → blinded left ≡ sent_at p x (calm start)
     sent_listed drawn_ given left d g l =
-        ap blinded (l ∙ ap (with_duty Room leaves) g)
+        ap blinded l ∙ ap (λ (v : View T). with_duty Room leaves (blinded v)) g
         ∙ ap (λ (v : View T). with_duty Room leaves (with_duty Values has_woken (ended v))) (d
         ∙ ap (λ (v : View T). with_duty Room done (with_duty Values owes_wake (drew p x v))) in_list)
 
     pub sent_woken : (dozed woken drawn_ given : View T)
-        → blinded dozed ≡ with_duty Room falls_asleep (blinded listed) → woken ≡ with_duty Room wakes_up dozed
+        → blinded dozed ≡ with_duty Room falls_asleep (blinded listed)
+        → woken ≡ with_duty Room wakes_up (takes_token Room dozed)
         → blinded drawn_ ≡ with_duty Room looked (with_duty Values owes_wake (drew p x (blinded woken)))
-        → given ≡ with_duty Values has_woken (ended drawn_)
+        → uncounted given ≡ uncounted (with_duty Values has_woken (ended drawn_))
         → blinded given ≡ sent_at p x (calm start)
     sent_woken dozed woken drawn_ given z w d g =
         ap blinded g ∙ ap (λ (v : View T). with_duty Values has_woken (ended v)) (d

@@ -1,5 +1,5 @@
 -- What a step does to one list, and how the laws of sleep stay true.
-use Rattle.mb_ring.proofs.Base.{arith, inl, inr, ℕ, ⊎_elim, ◌+◌, ◌-◌, ◌≡◌, ◌≤◌, suc, zero, refl}
+use Rattle.mb_ring.proofs.Base.{arith, inl, inr, ℕ, ⊎_elim, ◌+◌, ◌≡◌, ◌≤◌, suc, zero, refl}
 use Rattle.mb_ring.specs.Vocabulary.{Duty, Quiet, Room, Shut, Values, Want, debts, free, in_list}
 
 -- the same numbers for both lists, but n for one

@@ -1,8 +1,8 @@
 -- What the laws of all histories speak of.
-use Rattle.std.specs.Prelude.{Option, slice_index, ℕ, ◌%◌, ◌+◌, ◌-◌, ◌<◌, ◌≡◌, ◌≤◌, ◌⊎◌}
-use mathlib.Core.Option.{some}
+use Rattle.std.specs.Prelude.{Option, length, slice_index, ℕ, ◌%◌, ◌+◌, ◌-◌, ◌<◌, ◌≡◌, ◌≤◌, ◌⊎◌}
+use mathlib.Core.Option.{none, some}
 use lib.ListN.{get_elem?}
-use Rattle.atomic_table.specs.Table.{State}
+use Rattle.atomic_table.specs.Table.{State, Step, step}
 use Rattle.mb_ring.specs.Types.{Account, Member, Spent, View, Want}
 use Rattle.mb_ring.specs.Passes.{closing, owed, sleeping, total}
 use Rattle.mb_ring.specs.Rule.{Keeps}
@@ -20,6 +20,10 @@ claimed_in s = slice_index s.words 1
 -- the first word says that no more positions will be drawn: the top bit is set
 abbrev pub IsCut : {T : Type 0} → RingState T → Type 0
 IsCut s = 9223372036854775808 ≤ slice_index s.words 0
+
+-- a load of word j
+abbrev pub load_in : {T : Type 0} → ℕ → RingState T → Step (Option T)
+load_in j s = step (length s.homes) j 0 0 none
 
 abbrev pub IsViewOf : {T : Type 0} → RingState T → ℕ → View T → Type 0
 IsViewOf s i v = get_elem? s.views i ≡ some v
@@ -47,10 +51,12 @@ sleepers q s k = record {
   owed_to_all = total (closing q) s.views;
 }
 
--- Where one sleeps and has no token, somebody owes a token to all. Or `goes_on` holds, and for each of the `goods` values
--- (or free places) there is a token, or a look or a wake that somebody owes
+-- Where one sleeps and has no token: if the ring is open, for each of the `goods` values (or free places) there is a
+-- token, or a look or a wake that somebody owes. If not, somebody owes a token to all. A ring is open until it is cut. The
+-- theorem of the channel calls this `goes_on`, and also admits an open channel in which somebody owes a token to all
 abbrev pub IsAwake : Type 0 → ℕ → Sleepers → Type 0
-IsAwake goes_on goods s = s.tokens < s.asleep → (0 < s.owed_to_all) ⊎ (goes_on × (goods ≤ s.tokens + s.owed))
+IsAwake open_ goods s =
+    s.tokens < s.asleep → ((open_ → ⊥) × (0 < s.owed_to_all)) ⊎ (open_ × (goods ≤ s.tokens + s.owed))
 
 -- it is the number of a pass; and if the pass is out, this is true of its account
 abbrev pub IsOfPass : {T : Type 0} → RingState T → ℕ → (Account T → Type 0) → Type 0

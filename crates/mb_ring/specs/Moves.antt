@@ -1,9 +1,10 @@
 -- How a step changes a view.
-use Rattle.std.specs.Prelude.{None, Some, [], false, max, suc, true, ℕ, ◌+◌, ◌++◌, ◌-◌, ◌<◌, ◌∷◌, ◌≡◌, ◌≤◌, ◌⊎◌}
+use Rattle.std.specs.Prelude.{List, None, Some, [], false, max, suc, true, ℕ, ◌+◌, ◌++◌, ◌-◌, ◌<◌, ◌∷◌, ◌≡◌, ◌≤◌, ◌⊎◌}
 use Rattle.mb_segment.specs.History.{spot}
-use Rattle.mb_segment.specs.Moves.{Below, mark_in, or, owes_all}
-use Rattle.mb_ring.specs.Types.{Duties, Duty, Member, Nothing, Reads, Room, Values, View, Want, Writes}
-use Rattle.mb_ring.specs.Passes.{blank, blind}
+use Rattle.mb_segment.specs.Heard.{Below}
+use Rattle.mb_segment.specs.Moves.{mark_in, or, owes_all}
+use Rattle.mb_ring.specs.Types.{Duties, Duty, Event, Member, Nothing, Reads, Room, Tallies, Tokens, Values, View, Want, Writes}
+use Rattle.mb_ring.specs.Passes.{blank, blind, no_tallies}
 
 -- what is owed for one list changes. What a step does to a duty is told for a segment
 abbrev pub on : Want → (Duty → Duty) → Duties → Duties
@@ -24,6 +25,20 @@ dozes d = record d { fresh = d.fresh - 1; asleep = d.asleep + 1; closing = d.clo
 -- one in the list is about to leave a ring that is cut, and owes a token to each that waits
 abbrev pub done_with_all : Duty → Duty
 done_with_all d = record d { fresh = d.fresh - 1; leaving = d.leaving + 1; closing = d.closing + 1 }
+
+-- ---- tokens
+abbrev pub tallied : Want → (Tokens → Tokens) → Tallies → Tallies
+tallied Values f t = record t { values = f t.values }
+tallied Room f t = record t { room = f t.room }
+
+abbrev pub gives_tokens : {T : Type 0} → Want → ℕ → View T → View T
+gives_tokens q n v = record v { tokens = tallied q (λ t. record t { gave = t.gave + n }) v.tokens }
+
+abbrev pub gives_token : {T : Type 0} → Want → View T → View T
+gives_token q v = gives_tokens q 1 v
+
+abbrev pub takes_token : {T : Type 0} → Want → View T → View T
+takes_token q v = record v { tokens = tallied q (λ t. record t { took = t.took + 1 }) v.tokens }
 
 -- ---- positions
 -- it drew position p for the value x, which counts as sent
@@ -52,6 +67,10 @@ abbrev pub ended : {T : Type 0} → View T → View T
 ended v = record v { half = Nothing }
 
 -- ---- what was seen
+-- a view without the numbers that it loaded last
+abbrev pub bare : {T : Type 0} → View T → View T
+bare v = record v { sight = record v.sight { low = 0; top = 0; room = None } }
+
 abbrev pub sees_drawn : {T : Type 0} → ℕ → View T → View T
 sees_drawn r v = record v { sight = record v.sight { top = r } }
 
@@ -76,20 +95,22 @@ sees_cut v = record v { sight = record v.sight { cut = true } }
 abbrev pub did_cut : {T : Type 0} → View T → View T
 did_cut v = record v { account = record v.account { cut = true }; sight = record v.sight { cut = true } }
 
--- it saw that all positions were claimed when n were drawn
-abbrev pub sees_empty : {T : Type 0} → ℕ → View T → View T
-sees_empty n v = record v { sight = record v.sight { empty = n; found = v.sight.found + 1 } }
+-- it saw, after this walk, that all positions were claimed when n were drawn
+abbrev pub sees_empty : {T : Type 0} → ℕ → List Event → View T → View T
+sees_empty n w v =
+    record v { sight = record v.sight { empty = n; empty_looks = v.sight.empty_looks + 1; empty_walk = w } }
 
 -- how often it saw that
 abbrev pub found_empty : {T : Type 0} → View T → ℕ
-found_empty v = v.sight.found
+found_empty v = v.sight.empty_looks
 
--- it saw that all slots had values that wait when t positions were claimed
-abbrev pub sees_full : {T : Type 0} → ℕ → View T → View T
-sees_full t v = record v { sight = record v.sight { full = Some t; refused = v.sight.refused + 1 } }
+-- it saw, after this walk, that all slots had values that wait when t positions were claimed
+abbrev pub sees_full : {T : Type 0} → ℕ → List Event → View T → View T
+sees_full t w v =
+    record v { sight = record v.sight { full = Some t; full_looks = v.sight.full_looks + 1; full_walk = w } }
 
 abbrev pub found_full : {T : Type 0} → View T → ℕ
-found_full v = v.sight.refused
+found_full v = v.sight.full_looks
 
 -- when it saw the ring empty, all was claimed that it had sent, and the mark that it saw last. True of a pass that sent
 -- nothing and saw no mark
@@ -110,6 +131,12 @@ SawEmpty v w = SawAllTaken w × (v.known.drawn ≤ w.sight.empty) × (found_empt
 abbrev pub SawFull : {T : Type 0} → ℕ → View T → View T → Type 0
 SawFull n v w = (t : ℕ) × (w.sight.full ≡ Some t) × SawAllGot w × (v.known.taken ≤ t) × (v.known.drawn ≤ t + n)
     × (found_full v < found_full w)
+
+-- it found the ring of n slots cut, at once or after it had seen the ring full
+abbrev pub FoundCut : {T : Type 0} → ℕ → View T → View T → Type 0
+FoundCut n v w = (bare w ≡ bare (sees_cut v))
+    ⊎ ((t : ℕ) × (walk : List Event) × (bare w ≡ bare (sees_cut (sees_full t walk v))) × SawAllGot w
+    × (v.known.taken ≤ t) × (v.known.drawn ≤ t + n))
 
 -- it is told that no value can come any more
 abbrev pub told : {T : Type 0} → View T → View T
@@ -134,19 +161,29 @@ MaySend v = (v.sight.cut ≡ false) × (v.account.cut ≡ false) × (v.over ≡ 
 abbrev pub issued : {T : Type 0} → View T → View T
 issued v = record v { out = v.out + 1 }
 
--- the hub takes a pass back: it has its account, and knows whether it was told that no value can come any more
-abbrev pub took_back : {T : Type 0} → View T → View T → View T
-took_back v w = record v { out = v.out - 1; ends = w.account ∷ v.ends; over = or v.over w.over }
+-- the tokens of two
+abbrev pub counted : Tokens → Tokens → Tokens
+counted t u = record { gave = t.gave + u.gave; took = t.took + u.took }
 
--- ---- a view without the numbers that it loaded last, or without all that it saw, and a view at rest
-abbrev pub bare : {T : Type 0} → View T → View T
-bare v = record v { sight = record v.sight { low = 0; top = 0; room = None } }
+-- the hub takes a pass back: it has its account, counts its tokens, and knows whether it was told that no value can
+-- come any more
+abbrev pub took_back : {T : Type 0} → View T → View T → View T
+took_back v w = record v {
+  out = v.out - 1;
+  ends = w.account ∷ v.ends;
+  tokens = record { values = counted v.tokens.values w.tokens.values; room = counted v.tokens.room w.tokens.room };
+  over = or v.over w.over;
+}
+
+-- ---- a view without its tokens, one also without all that it saw, and a view at rest
+abbrev pub uncounted : {T : Type 0} → View T → View T
+uncounted v = record v { tokens = no_tallies }
 
 abbrev pub calm : {T : Type 0} → View T → View T
 calm v = record blank { account = v.account; known = v.known; over = v.over }
 
 abbrev pub blinded : {T : Type 0} → View T → View T
-blinded v = record v { sight = blind }
+blinded v = record v { sight = blind; tokens = no_tallies }
 
 -- the view is a pass's, which owes nothing, has nothing begun and is not in the list
 abbrev pub IsCalm : {T : Type 0} → View T → Type 0

@@ -1,7 +1,7 @@
 -- The first views, and how many passes are out.
 use Rattle.std.specs.Prelude.{List, None, [], false, ℕ, ◌+◌, ◌∷◌}
-use Rattle.mb_segment.specs.Passes.{if_hub, ignorant, no_duty, nothing_done, one_if_member}
-use Rattle.mb_ring.specs.Types.{Duties, Duty, Issuer, Member, Nothing, Room, Sight, Spent, Values, View, Want}
+use Rattle.mb_segment.specs.Passes.{if_hub, ignorant, no_duty, no_tokens, nothing_done, one_if_member}
+use Rattle.mb_ring.specs.Types.{Duties, Duty, Issuer, Member, Nothing, Room, Sight, Spent, Tallies, Tokens, Values, View, Want}
 
 -- the sum of a number over all views
 abbrev pub total : {T : Type 0} → (View T → ℕ) → List (View T) → ℕ
@@ -40,11 +40,37 @@ owed q v = debts (part q v.duty)
 abbrev pub closing : {T : Type 0} → Want → View T → ℕ
 closing q v = (part q v.duty).closing
 
+-- the part of the tokens given and taken that is about one list
+abbrev pub tally : Want → Tallies → Tokens
+tally Values t = t.values
+tally Room t = t.room
+
+abbrev pub tokens_given : {T : Type 0} → Want → View T → ℕ
+tokens_given q v = (tally q v.tokens).gave
+
+abbrev pub tokens_taken : {T : Type 0} → Want → View T → ℕ
+tokens_taken q v = (tally q v.tokens).took
+
 abbrev pub blind : Sight
-blind = record { low = 0; top = 0; room = None; ripe = None; cut = false; empty = 0; found = 0; full = None; refused = 0 }
+blind = record {
+  low = 0;
+  top = 0;
+  room = None;
+  ripe = None;
+  cut = false;
+  empty = 0;
+  empty_looks = 0;
+  empty_walk = [];
+  full = None;
+  full_looks = 0;
+  full_walk = [];
+}
 
 abbrev pub no_duties : Duties
 no_duties = record { values = no_duty; room = no_duty }
+
+abbrev pub no_tallies : Tallies
+no_tallies = record { values = no_tokens; room = no_tokens }
 
 -- a pass that did nothing, saw nothing and owes nothing
 abbrev pub blank : {T : Type 0} → View T
@@ -54,6 +80,7 @@ blank = record {
   known = ignorant;
   half = Nothing;
   duty = no_duties;
+  tokens = no_tallies;
   sight = blind;
   over = false;
   out = 0;

@@ -1,8 +1,8 @@
 -- What each step tells its caller. `r` is the number found, `m` the seat before, `n` the seat after.
-use Rattle.std.specs.Prelude.{None, Option, Some, ℕ, ◌%◌, ◌*◌, ◌+◌, ◌<◌, ◌∷◌, ◌≡◌, ◌≢◌, ◌≤◌}
+use Rattle.std.specs.Prelude.{List, None, Option, Some, ℕ, ◌%◌, ◌*◌, ◌+◌, ◌<◌, ◌∷◌, ◌≡◌, ◌≢◌, ◌≤◌}
 use Rattle.atomic_table.specs.Table.{Me, Step, rest}
 use Rattle.mb_segment.specs.Moves.{owes_wake}
-use Rattle.mb_ring.specs.Types.{Duty, Room, Values, View, Want}
+use Rattle.mb_ring.specs.Types.{Duty, Event, Room, Values, View, Want}
 use Rattle.mb_ring.specs.Moves.{KnowsCut, KnowsOver, MaySend, MayTake, SawAllGot, SawAllTaken, drew, ended, marked_to, sees_cut, sees_drawn, sees_empty, sees_full, sees_mark}
 use Rattle.mb_ring.specs.Moves.{sees_room, sees_taken, told, took, with_duty}
 
@@ -46,7 +46,8 @@ claiming {T} f st m r n =
 abbrev pub ending : {T : Type 0} → Step (Option T) → Sat T → ℕ → Sat T → Type 0
 ending st m r n = (n.0 ≡ ended m.0) × (n.1 ≡ rest m.1)
 
--- a load of the number drawn, before a draw. Once the pass was told that the ring is cut, or over, each finds it cut
+-- a load of the number drawn, before a draw. Once the pass cut the ring, or was told that it is cut, or over, each finds it
+-- cut
 abbrev pub asking : {T : Type 0} → (Duty → Duty) → Step (Option T) → Sat T → ℕ → Sat T → Type 0
 asking f st m r n =
     (9223372036854775808 ≤ r → becomes m n (sees_cut (with_duty Room f m.0)))
@@ -64,7 +65,8 @@ seeing_room k st m r n =
 -- drawn that was loaded does not tell so
 abbrev pub counting : {T : Type 0} → (Duty → Duty) → Step (Option T) → Sat T → ℕ → Sat T → Type 0
 counting f st m r n =
-    (r + st.slots ≤ m.0.sight.top → becomes m n (sees_full r (with_duty Room f m.0)) × SawAllGot n.0)
+    (r + st.slots ≤ m.0.sight.top
+    → (w : List Event) × becomes m n (sees_full r w (with_duty Room f m.0)) × SawAllGot n.0)
     × (m.0.sight.top < r + st.slots → becomes m n (sees_taken r m.0)) × (r ≤ 4611686018427387904)
     × (m.0.known.taken ≤ r) × (m.0.known.drawn ≤ r + st.slots)
 
@@ -92,7 +94,8 @@ abbrev pub looking : {T : Type 0} → (Duty → Duty) → (Duty → Duty) → St
 looking none_yet none_ever st m r n =
     (m.0.sight.low < r % 9223372036854775808 → becomes m n (sees_drawn (r % 9223372036854775808) m.0))
     × (r % 9223372036854775808 ≤ m.0.sight.low → r < 9223372036854775808
-    → becomes m n (sees_empty r (with_duty Values none_yet m.0)) × SawAllTaken n.0 × (m.0.known.drawn ≤ r))
+    → (w : List Event) × becomes m n (sees_empty r w (with_duty Values none_yet m.0)) × SawAllTaken n.0
+    × (m.0.known.drawn ≤ r))
     × (r % 9223372036854775808 ≤ m.0.sight.low → 9223372036854775808 ≤ r
     → becomes m n (told (with_duty Values none_ever m.0)))
     × (KnowsOver m.0 → (r % 9223372036854775808 ≤ m.0.sight.low) × (9223372036854775808 ≤ r))

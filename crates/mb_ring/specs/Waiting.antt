@@ -1,5 +1,5 @@
 -- What is true of an answer of a call that waits, variant by variant.
-use Rattle.std.specs.Prelude.{ℕ}
+use Rattle.std.specs.Prelude.{IfErr, IfOk, Result, ℕ, ⊤}
 use Rattle.mb_ring.specs.declared.receives.Found.{Found}
 use Rattle.mb_ring.specs.declared.sends.NotSent.{NotSent}
 use Rattle.mb_ring.specs.declared.sends.Place.{Place}
@@ -19,6 +19,10 @@ abbrev pub OfNotSent : {T : Type 0} → NotSent T → Type 0 → Type 0 → Type
 OfNotSent (not_sent.Full x) full cut worn = full
 OfNotSent (not_sent.Closed x) full cut worn = cut
 OfNotSent (not_sent.Worn x) full cut worn = worn
+
+-- it came back since the ring is cut
+abbrev pub IsShutOut : {A T : Type 0} → Result A (NotSent T) → Type 0
+IsShutOut r = IfOk r (λ _. ⊥) × IfErr r (λ e. OfNotSent e ⊥ ⊤ ⊥)
 
 -- the same of draws, or a position is drawn
 abbrev pub OfPlace : Place → (ℕ → Type 0) → Type 0 → Type 0 → Type 0 → Type 0

@@ -1,10 +1,12 @@
 //! The laws of a ring, over all histories. The functions compute nothing: their contracts are the laws.
-ghost use Rattle.std.specs.Prelude.{List, Some, [], length, true, ℕ, ◌+◌, ◌-◌, ◌<◌, ◌∷◌, ◌≡◌, ◌≤◌, ◌⊎◌};
+ghost use Rattle.std.specs.Prelude.{List, Some, [], length, slice_index, true, ℕ, ◌%◌, ◌+◌, ◌-◌, ◌<◌, ◌∷◌, ◌≡◌, ◌≤◌, ◌⊎◌};
 ghost use mathlib.Core.Option.{some};
 ghost use lib.ListN.{get_elem?};
-ghost use Rattle.mb_ring.specs.{Claim, Entry, Has, IsAwake, IsCut, IsOfPass, IsPassOf, IsViewOf, Issuer, Keeps, Match, Member, Reads, RingState};
-ghost use Rattle.mb_ring.specs.{Rises, Room, SawAllGot, SawAllTaken, Values, View, Want, Writes, all_entries, claimed_in, closing, drawn_in};
-ghost use Rattle.mb_ring.specs.{got_by, listed, new_hub, owed, sent_by, sleepers, sleeping, spot, total, waiting_in};
+ghost use Rattle.mb_ring.specs.{Claim, Duty, Entry, Event, FoundEmpty, FoundFull, GoesOn, Has, IsAwake, IsCut, IsOfPass, IsPassOf, IsViewOf};
+ghost use Rattle.mb_ring.specs.{Issuer, Keeps, Match, Member, Reads, RingState, Rises, Room, Sat, SawAllGot, SawAllTaken, Values, View, Want};
+ghost use Rattle.mb_ring.specs.{Writes, all_entries, claimed_in, closing, counting, draws, drawn_in, found_empty, found_full, got_by, listed};
+ghost use Rattle.mb_ring.specs.{list_word, load_in, looking, new_hub, owed, sent_by, sleepers, sleeping, spot, times_empty, times_full};
+ghost use Rattle.mb_ring.specs.{tokens_given, tokens_taken, total, waiting_after, waiting_in};
 
 /// All positions drawn stand in one order, and the first of them are those claimed. What a pass sent and what it
 /// received stand there in its own order. What is drawn or claimed next stands after all that was before.
@@ -72,6 +74,36 @@ pub fn over_is_true<T>()
         → v.sight.cut ≡ true → IsCut s }
 {}
 
+/// The walk has each draw and each claim, and each look that found nothing or no room. A pass counted its own such looks,
+/// and saw the walk before the last of each kind. At each look that found nothing, nothing waited. At each that found no
+/// room, as many values waited as there are slots. `step_empty` and `step_full`: so it is at each load at which the count
+/// of a pass rises.
+pub fn looks_are_true<T>()
+    ensures walk { (s : RingState T) (k : Keeps s)
+        → (draws k.walk ≡ drawn_in s) × (drawn_in s ≡ claimed_in s + waiting_after k.walk) }
+    ensures counted { (s : RingState T) (k : Keeps s) (n : ℕ) (v : View T) → IsPassOf s n v
+        → (found_empty v ≡ times_empty n k.walk) × (found_full v ≡ times_full n k.walk) }
+    ensures empty { (s : RingState T) (k : Keeps s) (n : ℕ) (earlier : List Event)
+        → GoesOn (FoundEmpty n ∷ earlier) k.walk → waiting_after earlier ≡ 0 }
+    ensures full { (s : RingState T) (k : Keeps s) (n : ℕ) (earlier : List Event)
+        → GoesOn (FoundFull n ∷ earlier) k.walk → waiting_after earlier ≡ length s.homes }
+    ensures last_empty { (s : RingState T) (k : Keeps s) (n : ℕ) (v : View T) → IsPassOf s n v
+        → 0 < found_empty v → GoesOn (FoundEmpty n ∷ v.sight.empty_walk) k.walk
+        × (found_empty v ≡ times_empty n v.sight.empty_walk + 1)
+        × (draws v.sight.empty_walk ≡ v.sight.empty) × (waiting_after v.sight.empty_walk ≡ 0) }
+    ensures last_full { (s : RingState T) (k : Keeps s) (n : ℕ) (v : View T) → IsPassOf s n v
+        → 0 < found_full v → GoesOn (FoundFull n ∷ v.sight.full_walk) k.walk
+        × (found_full v ≡ times_full n v.sight.full_walk + 1)
+        × (waiting_after v.sight.full_walk ≡ length s.homes)
+        × ((t : ℕ) × (v.sight.full ≡ Some t) × (draws v.sight.full_walk ≡ t + length s.homes)) }
+    ensures step_empty { (s : RingState T) (k : Keeps s) (n : ℕ) (f g : Duty → Duty) (v w : Sat T)
+        → IsViewOf s n v.0 → looking f g (load_in 0 s) v (slice_index s.words 0) w
+        → found_empty v.0 < found_empty w.0 → (waiting_in s ≡ 0) × (IsCut s → ⊥) }
+    ensures step_full { (s : RingState T) (k : Keeps s) (n : ℕ) (f : Duty → Duty) (v w : Sat T)
+        → IsViewOf s n v.0 → counting f (load_in 1 s) v (slice_index s.words 1) w
+        → found_full v.0 < found_full w.0 → waiting_in s ≡ length s.homes }
+{}
+
 /// A slot is not used again too early. As long as a pass still has to mark or read a position, nobody draws the position
 /// that comes a lap later. Meanwhile the one to mark waits, and the one to read is claimed.
 pub fn one_lap<T>()
@@ -109,7 +141,8 @@ pub fn one_cutter<T>()
 /// Between any two steps: if a receiver sleeps without a token, no more values wait than there are tokens given to
 /// receivers, and looks and wakes owed for values. If a sender sleeps without a token and the ring is open, no more places
 /// are free than there are tokens given to senders, and looks and wakes owed for room. If no more will be drawn, somebody
-/// still owes a token to each that sleeps. Whoever owes or is in a list is a pass that is out.
+/// still owes a token to each that sleeps. Whoever owes or is in a list is a pass that is out. A token that was given is
+/// in the word of its list until it is taken.
 pub fn no_wake_up_is_lost<T>()
     ensures values { (s : RingState T) (k : Keeps s)
         → k.tokens Values < total (sleeping Values) s.views
@@ -121,11 +154,13 @@ pub fn no_wake_up_is_lost<T>()
         → k.tokens q < total (sleeping q) s.views → IsCut s → 0 < total (closing q) s.views }
     ensures debtor { (s : RingState T) (k : Keeps s) (q : Want) (n : ℕ) (v : View T)
         → IsViewOf s n v → 0 < owed q v + listed q v + closing q v → v.role ≡ Member }
+    ensures given { (s : RingState T) (k : Keeps s) (q : Want) → total (tokens_given q) s.views
+        ≡ slice_index s.words (list_word q) % 4294967296 + total (tokens_taken q) s.views }
 {}
 
-/// What the theorem of the channel asks of each moment: `EachBounded`, and of `EachMoment` the part `awake`. It is told of
-/// a ring with as many slots as the bound, to which no value comes back. `full`: at the load at which a draw finds so few
-/// claimed.
+/// What the theorem of the channel asks of each moment, and a little more: `EachBounded`, and of `EachMoment` the part
+/// `awake`. It is told of a ring with as many slots as the bound, to which no value comes back. `full`: at the load at
+/// which a draw finds so few claimed.
 pub fn each_bounded<T>()
     ensures within { (s : RingState T) (k : Keeps s) → waiting_in s ≤ length s.homes }
     ensures full { (s : RingState T) (k : Keeps s) (n : ℕ) (v : View T) → IsViewOf s n v

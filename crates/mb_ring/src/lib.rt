@@ -23,8 +23,8 @@
 //!
 //! # The calls that wait
 //!
-//! [`Ring::try_send`], [`Ring::send`], [`Ring::send_by`], [`Ring::receive`], [`Ring::receive_by`] and [`Ring::close`] are
-//! made of those.
+//! [`Ring::try_send`], [`Ring::send`], [`Ring::send_by`], [`Ring::try_receive`], [`Ring::receive`], [`Ring::receive_by`]
+//! and [`Ring::close`] are made of those. [`Ring::len`] tells how many values wait.
 //!
 //! # What is kept
 //!
@@ -33,6 +33,7 @@
 #![tactic(auto)]
 
 mod answers;
+mod counting;
 mod effects;
 mod ending;
 mod idle;
@@ -58,6 +59,7 @@ pub use answers::Draw;
 pub use idle::Idle;
 pub use left::Left;
 pub use lists::{AnyList, ForRoom, ForValues};
+pub use receives::Found;
 pub use ring::{Hub, Pass, Ring};
 pub use sends::NotSent;
-pub use view::{Duties, Sight, View, Want};
+pub use view::{Duties, Sight, Tallies, View, Want};

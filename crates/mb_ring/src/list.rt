@@ -1,7 +1,7 @@
 //! Each atomic step on a list of those that wait, and the sleep itself.
 ghost use Rattle.std.specs.Prelude.{ℕ, ◌%◌, ◌+◌, ◌<◌, ◌≡◌, ◌≢◌, ◌≤◌};
-ghost use Rattle.mb_ring.specs.{Becomes, IsStill, Member, enters, gives_up, goes_unseen, hands_on, has_closed, has_woken};
-ghost use Rattle.mb_ring.specs.{leaves, leaves_with_token, part, view_in, wakes_up, with_duty};
+ghost use Rattle.mb_ring.specs.{Becomes, IsStill, Member, enters, gives_token, gives_up, goes_unseen, hands_on, has_closed};
+ghost use Rattle.mb_ring.specs.{has_woken, leaves, leaves_with_token, part, takes_token, view_in, wakes_up, with_duty};
 
 use crate::effects::{
     Enters, GivesUp, GoesUnseen, HandsOn, HasClosed, HasWoken, Leaves, LeavesWithToken, Same,
@@ -9,7 +9,7 @@ use crate::effects::{
 };
 use crate::lists::AnyList;
 use crate::ring::{Pass, Ring};
-use crate::rule::{Always, Exchanges, NoneWaits};
+use crate::rule::{Always, Exchanges, Gives, NoneWaits, Takes};
 use std::alloc::Allocator;
 use std::sync::Wait;
 use std::time::Duration;
@@ -81,13 +81,13 @@ impl<T: Drop, A: Allocator + Drop> Ring<T, A> {
         requires room { seen % 4294967296 < 4294967295 }
         requires new { new + 4294967296 ≡ seen + 1 }
         ensures pass { IsStill pass.old pass.new }
-        ensures given { result ≡ seen
-            → Becomes pass.old pass.new (with_duty Q.want has_woken (view_in pass.old)) }
+        ensures given { result ≡ seen → Becomes pass.old pass.new
+            (with_duty Q.want has_woken (gives_token Q.want (view_in pass.old))) }
         ensures missed { result ≢ seen → Becomes pass.old pass.new (view_in pass.old) }
     {
         self.table
             .shared
-            .compare_exchange::<Exchanges<Q, HasWoken>>(&mut pass.seat, Q::word(), seen, new)
+            .compare_exchange::<Gives<Q, HasWoken>>(&mut pass.seat, Q::word(), seen, new)
     }
 
     /// The same for one that owes tokens to all, and still does then.
@@ -97,12 +97,13 @@ impl<T: Drop, A: Allocator + Drop> Ring<T, A> {
         requires room { seen % 4294967296 < 4294967295 }
         requires new { new + 4294967296 ≡ seen + 1 }
         ensures pass { IsStill pass.old pass.new }
-        ensures given { result ≡ seen → Becomes pass.old pass.new (view_in pass.old) }
+        ensures given { result ≡ seen
+            → Becomes pass.old pass.new (gives_token Q.want (view_in pass.old)) }
         ensures missed { result ≢ seen → Becomes pass.old pass.new (view_in pass.old) }
     {
         self.table
             .shared
-            .compare_exchange::<Exchanges<Q, Same>>(&mut pass.seat, Q::word(), seen, new)
+            .compare_exchange::<Gives<Q, Same>>(&mut pass.seat, Q::word(), seen, new)
     }
 
     /// Enters the list, if it is still as it was seen.
@@ -149,12 +150,12 @@ impl<T: Drop, A: Allocator + Drop> Ring<T, A> {
         ensures pass { IsStill pass.old pass.new }
         ensures left { result ≡ seen
             → Becomes pass.old pass.new
-            (with_duty Q.want leaves_with_token (view_in pass.old)) }
+            (with_duty Q.want leaves_with_token (takes_token Q.want (view_in pass.old))) }
         ensures missed { result ≢ seen → Becomes pass.old pass.new (view_in pass.old) }
     {
         self.table
             .shared
-            .compare_exchange::<Exchanges<Q, LeavesWithToken>>(&mut pass.seat, Q::word(), seen, new)
+            .compare_exchange::<Takes<Q, LeavesWithToken>>(&mut pass.seat, Q::word(), seen, new)
     }
 
     /// A sleeper takes a token, if the list is still as it was seen. It then owes a look.
@@ -164,13 +165,13 @@ impl<T: Drop, A: Allocator + Drop> Ring<T, A> {
         requires token { 0 < seen % 4294967296 }
         requires new { seen ≡ new + 1 }
         ensures pass { IsStill pass.old pass.new }
-        ensures woken { result ≡ seen
-            → Becomes pass.old pass.new (with_duty Q.want wakes_up (view_in pass.old)) }
+        ensures woken { result ≡ seen → Becomes pass.old pass.new
+            (with_duty Q.want wakes_up (takes_token Q.want (view_in pass.old))) }
         ensures missed { result ≢ seen → Becomes pass.old pass.new (view_in pass.old) }
     {
         self.table
             .shared
-            .compare_exchange::<Exchanges<Q, WakesUp>>(&mut pass.seat, Q::word(), seen, new)
+            .compare_exchange::<Takes<Q, WakesUp>>(&mut pass.seat, Q::word(), seen, new)
     }
 
     /// A sleeper stops waiting, and is about to leave.

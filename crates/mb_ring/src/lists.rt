@@ -1,7 +1,7 @@
 //! The two lists of those that wait, and the calls on them, which are the same for both.
 ghost use Rattle.std.specs.Prelude.{false, true, ◌<◌, ◌≡◌};
-ghost use Rattle.mb_ring.specs.{Becomes, IsStill, Member, OfLeave, OfRest, OfWake, enters, has_closed, has_woken, leaves};
-ghost use Rattle.mb_ring.specs.{leaves_with_token, part, view_in, wakes_up, with_duty};
+ghost use Rattle.mb_ring.specs.{Becomes, IsStill, Member, OfLeave, OfRest, OfWake, enters, gives_token, has_closed, has_woken};
+ghost use Rattle.mb_ring.specs.{leaves, leaves_with_token, part, takes_token, view_in, wakes_up, with_duty};
 
 use crate::list::LISTED;
 use crate::ring::{Pass, Ring};
@@ -49,14 +49,16 @@ impl AnyList for ForRoom {
 }
 
 impl<T: Drop, A: Allocator + Drop> Ring<T, A> {
-    /// Pays one wake that is owed: gives a token to one that waits, or finds that nobody does. Two accesses at most.
+    /// Pays one wake that is owed: gives a token to one that waits, or finds that nobody does. [`Wake::One`] is the answer
+    /// exactly if it gave a token. Two accesses at most.
     pub fn wake<Q: AnyList>(&self, pass: &mut Pass<T>) -> Wake
         requires ring { pass.old.seat.table_id ≡ self.now.table.shared.table_id }
         requires owes { 0 < (part Q.want (view_in pass.old).duty).wakes }
         ensures pass { IsStill pass.old pass.new }
         ensures answer { OfWake result
             (Becomes pass.old pass.new (with_duty Q.want has_woken (view_in pass.old)))
-            (Becomes pass.old pass.new (with_duty Q.want has_woken (view_in pass.old)))
+            (Becomes pass.old pass.new
+            (with_duty Q.want has_woken (gives_token Q.want (view_in pass.old))))
             (Becomes pass.old pass.new (view_in pass.old)) }
     {
         let seen = self.see_sleepers::<Q>(pass);
@@ -71,15 +73,15 @@ impl<T: Drop, A: Allocator + Drop> Ring<T, A> {
         Wake::Again
     }
 
-    /// Gives a token to one of all that wait, for a pass that owes tokens to all. It owes this
-    /// until the answer is [`Wake::Nobody`]. Two accesses at most.
+    /// Gives a token to one of all that wait, for a pass that owes tokens to all. It owes this until the answer is
+    /// [`Wake::Nobody`]. The answer is [`Wake::One`] exactly if it gave a token. Two accesses at most.
     pub fn wake_all<Q: AnyList>(&self, pass: &mut Pass<T>) -> Wake
         requires ring { pass.old.seat.table_id ≡ self.now.table.shared.table_id }
         requires owes { 0 < (part Q.want (view_in pass.old).duty).closing }
         ensures pass { IsStill pass.old pass.new }
         ensures answer { OfWake result
             (Becomes pass.old pass.new (with_duty Q.want has_closed (view_in pass.old)))
-            (Becomes pass.old pass.new (view_in pass.old))
+            (Becomes pass.old pass.new (gives_token Q.want (view_in pass.old)))
             (Becomes pass.old pass.new (view_in pass.old)) }
     {
         let seen = self.see_rest::<Q>(pass);
@@ -117,7 +119,8 @@ impl<T: Drop, A: Allocator + Drop> Ring<T, A> {
         requires asleep { 0 < (part Q.want (view_in pass.old).duty).asleep }
         ensures pass { IsStill pass.old pass.new }
         ensures answer { OfRest result
-            (Becomes pass.old pass.new (with_duty Q.want wakes_up (view_in pass.old)))
+            (Becomes pass.old pass.new
+            (with_duty Q.want wakes_up (takes_token Q.want (view_in pass.old))))
             (Becomes pass.old pass.new (view_in pass.old)) }
     {
         let seen = self.peek_list::<Q>();
@@ -138,7 +141,8 @@ impl<T: Drop, A: Allocator + Drop> Ring<T, A> {
         ensures pass { IsStill pass.old pass.new }
         ensures answer { OfLeave result
             (Becomes pass.old pass.new (with_duty Q.want leaves (view_in pass.old)))
-            (Becomes pass.old pass.new (with_duty Q.want leaves_with_token (view_in pass.old)))
+            (Becomes pass.old pass.new
+            (with_duty Q.want leaves_with_token (takes_token Q.want (view_in pass.old))))
             (Becomes pass.old pass.new (view_in pass.old)) }
     {
         let seen = self.peek_list::<Q>();

@@ -2,7 +2,7 @@
 ghost use Rattle.std.specs.Prelude.{IfNone, IfSome, Some, [], false, true, ℕ, ◌%◌, ◌<◌, ◌∷◌, ◌≡◌, ◌≤◌};
 ghost use Rattle.mb_ring.specs.{IsCalm, IsFree, IsStill, MayTake, Member, Nothing, OfFound, OfReceived, Reads, Room, SawEmpty, Values};
 ghost use Rattle.mb_ring.specs.{blinded, calm, done, ended, falls_asleep, found_empty, got_at, has_woken, held_by, looked, marked_to};
-ghost use Rattle.mb_ring.specs.{spot, told, view_in, with_duty};
+ghost use Rattle.mb_ring.specs.{spot, told, uncounted, view_in, with_duty};
 
 use crate::lists::{ForRoom, ForValues};
 use crate::ring::{Pass, Ring};
@@ -12,11 +12,13 @@ use std::sync::Wait;
 use std::thread::yield_now;
 use std::time::{Clock, Instant};
 
-/// What was found by looks that wait for no sleep.
-#[derive(Drop)]
-enum Found<T> {
+/// What a receive that does not sleep came to.
+#[derive(Debug, Drop)]
+pub enum Found<T> {
     Value(T),
+    /// At a moment of this call no value waited ([`crate::laws::looks_are_true`]).
     Empty,
+    /// The ring is cut, and each position drawn is claimed.
     Over,
 }
 
@@ -31,7 +33,8 @@ impl<T: Drop, A: Allocator + Drop> Ring<T, A> {
         requires owes { 0 < (view_in pass.old).duty.room.wakes }
         ensures pass { IsStill pass.old pass.new }
         ensures value { (view_in pass.old).half ≡ Reads (spot at result) }
-        ensures taken { view_in pass.new ≡ with_duty Room has_woken (ended (view_in pass.old)) }
+        ensures taken { uncounted (view_in pass.new)
+            ≡ uncounted (with_duty Room has_woken (ended (view_in pass.old))) }
         ensures held { held_by pass.new ≡ [] }
     {
         let value = self.read(pass, at);
@@ -110,6 +113,25 @@ impl<T: Drop, A: Allocator + Drop> Ring<T, A> {
         unreachable!()
     }
 
+    /// Receives the first value, if one waits. It does not sleep, but yields while the next position is drawn and not
+    /// marked.
+    pub fn try_receive<R: Wait>(&self, rt: &R, pass: &mut Pass<T>) -> Found<T>
+        requires ring { pass.old.seat.table_id ≡ self.now.table.shared.table_id }
+        requires free { IsFree pass.old }
+        ensures pass { IsStill pass.old pass.new }
+        ensures answer { OfFound result
+            (λ x. (at : ℕ) × (blinded (view_in pass.new) ≡ got_at at x (calm (view_in pass.old)))
+            × MayTake (view_in pass.old))
+            ((blinded (view_in pass.new) ≡ calm (view_in pass.old))
+            × SawEmpty (view_in pass.old) (view_in pass.new))
+            (blinded (view_in pass.new) ≡ told (calm (view_in pass.old))) }
+        ensures mark { marked_to (view_in pass.old) ≤ marked_to (view_in pass.new) }
+        ensures found { found_empty (view_in pass.old) ≤ found_empty (view_in pass.new) }
+        ensures free { IsFree pass.new }
+    {
+        self.find(rt, pass)
+    }
+
     /// Receives the first value, and sleeps until there is one. `None` only if none can come any more, and no
     /// later call gives a value then.
     pub fn receive<R: Wait>(&self, rt: &R, pass: &mut Pass<T>) -> Option<T>
@@ -121,6 +143,8 @@ impl<T: Drop, A: Allocator + Drop> Ring<T, A> {
             × MayTake (view_in pass.old)) }
         ensures over { IfNone result
             (blinded (view_in pass.new) ≡ told (calm (view_in pass.old))) }
+        ensures mark { marked_to (view_in pass.old) ≤ marked_to (view_in pass.new) }
+        ensures found { found_empty (view_in pass.old) ≤ found_empty (view_in pass.new) }
         ensures free { IsFree pass.new }
     {
         for _ in rt.forever() {

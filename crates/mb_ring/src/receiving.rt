@@ -1,6 +1,6 @@
 //! The calls of receivers.
-ghost use Rattle.std.specs.Prelude.{Some, [], false, true, ℕ, ◌%◌, ◌<◌, ◌∷◌, ◌≡◌, ◌≤◌};
-ghost use Rattle.mb_ring.specs.{Becomes, IsOver, IsStill, KnowsOver, MayTake, Member, Nothing, OfLook, Reads, Room, SawAllTaken, Values};
+ghost use Rattle.std.specs.Prelude.{List, Some, [], false, true, ℕ, ◌%◌, ◌<◌, ◌∷◌, ◌≡◌, ◌≤◌};
+ghost use Rattle.mb_ring.specs.{Becomes, Event, IsOver, IsStill, KnowsOver, MayTake, Member, Nothing, OfLook, Reads, Room, SawAllTaken, Values};
 ghost use Rattle.mb_ring.specs.{bare, done, ended, falls_asleep, held_by, looked, marked_to, owes_wake, sees_empty, sees_mark, sees_taken};
 ghost use Rattle.mb_ring.specs.{spot, told, took, view_in, with_duty};
 
@@ -12,10 +12,10 @@ use std::alloc::Allocator;
 use std::marker::Brand;
 
 impl<T: Drop, A: Allocator + Drop> Ring<T, A> {
-    /// Looks for the first value that waits. If it finds none, it pays one look that is owed, and all is claimed that the
-    /// pass had sent or seen marked, in this call or before. Only the body shows that nothing waited at one moment: it
-    /// loads the number claimed first, and the number drawn later. "Over" comes only if the ring was cut, and all is
-    /// claimed. Each later look of the pass answers "Over" too. Three accesses at most.
+    /// Looks for the first value that waits. If it finds none, it pays one look that is owed, and nothing waited at its
+    /// last access ([`crate::laws::looks_are_true`]). All is claimed that the pass had sent or seen marked, in this call
+    /// or before. "Over" comes only if the ring was cut, and all is claimed. Each later look of the pass answers "Over"
+    /// too. Three accesses at most.
     pub fn look(&self, pass: &mut Pass<T>) -> Look
         requires ring { pass.old.seat.table_id ≡ self.now.table.shared.table_id }
         ensures pass { IsStill pass.old pass.new }
@@ -28,8 +28,8 @@ impl<T: Drop, A: Allocator + Drop> Ring<T, A> {
             ((bare (view_in pass.new) ≡ bare (view_in pass.old))
             × ((view_in pass.old).known.taken ≤ (view_in pass.new).sight.low)
             × ((view_in pass.new).sight.low < (view_in pass.new).sight.top))
-            ((n : ℕ) × (bare (view_in pass.new)
-            ≡ bare (sees_empty n (with_duty Values looked (view_in pass.old))))
+            ((n : ℕ) × (w : List Event) × (bare (view_in pass.new)
+            ≡ bare (sees_empty n w (with_duty Values looked (view_in pass.old))))
             × SawAllTaken (view_in pass.new) × ((view_in pass.old).known.drawn ≤ n))
             (bare (view_in pass.new) ≡ bare (told (with_duty Values looked (view_in pass.old)))) }
         ensures told { KnowsOver (view_in pass.old) → IsOver result }
@@ -64,8 +64,8 @@ impl<T: Drop, A: Allocator + Drop> Ring<T, A> {
             ((bare (view_in pass.new) ≡ bare (view_in pass.old))
             × ((view_in pass.old).known.taken ≤ (view_in pass.new).sight.low)
             × ((view_in pass.new).sight.low < (view_in pass.new).sight.top))
-            ((n : ℕ) × (bare (view_in pass.new)
-            ≡ bare (sees_empty n (with_duty Values falls_asleep (view_in pass.old))))
+            ((n : ℕ) × (w : List Event) × (bare (view_in pass.new)
+            ≡ bare (sees_empty n w (with_duty Values falls_asleep (view_in pass.old))))
             × SawAllTaken (view_in pass.new) × ((view_in pass.old).known.drawn ≤ n))
             (bare (view_in pass.new) ≡ bare (told (with_duty Values done (view_in pass.old)))) }
         ensures told { KnowsOver (view_in pass.old) → IsOver result }

@@ -1,7 +1,7 @@
 //! The draw of a sender that waits for room.
-ghost use Rattle.std.specs.Prelude.{None, [], true, ℕ, ◌%◌, ◌+◌, ◌<◌, ◌∷◌, ◌≡◌, ◌≤◌};
-ghost use Rattle.mb_ring.specs.{IsClosed, IsStill, KnowsCut, MaySend, Member, Nothing, OfDraw, Room, SawAllGot, Values, bare, blinded};
-ghost use Rattle.mb_ring.specs.{done, done_with_all, drew, falls_asleep, found_full, held_by, owes_wake, sees_full, view_in, with_duty};
+ghost use Rattle.std.specs.Prelude.{List, None, [], true, ℕ, ◌%◌, ◌+◌, ◌<◌, ◌∷◌, ◌≡◌, ◌≤◌};
+ghost use Rattle.mb_ring.specs.{Event, FoundCut, IsClosed, IsStill, KnowsCut, MaySend, Member, Nothing, OfDraw, Room, SawAllGot, Values, bare};
+ghost use Rattle.mb_ring.specs.{done, done_with_all, drew, falls_asleep, held_by, owes_wake, sees_full, view_in, with_duty};
 
 use crate::answers::Draw;
 use crate::ring::{Pass, Ring};
@@ -26,15 +26,13 @@ impl<T: Drop, A: Allocator + Drop> Ring<T, A> {
             × (bare (view_in pass.new) ≡ bare (with_duty Room done
             (with_duty Values owes_wake (drew at value.now (view_in pass.old)))))
             × MaySend (view_in pass.old))
-            ((t : ℕ) × (bare (view_in pass.new)
-            ≡ bare (sees_full t (with_duty Room falls_asleep (view_in pass.old))))
+            ((t : ℕ) × (w : List Event) × (bare (view_in pass.new)
+            ≡ bare (sees_full t w (with_duty Room falls_asleep (view_in pass.old))))
             × SawAllGot (view_in pass.new) × (held_by pass.new ≡ [])
             × ((view_in pass.old).known.taken ≤ t)
             × ((view_in pass.old).known.drawn ≤ t + self.now.size))
-            ((blinded (view_in pass.new)
-            ≡ with_duty Room done_with_all (blinded (view_in pass.old)))
-            × (found_full (view_in pass.old) ≤ found_full (view_in pass.new))
-            × ((view_in pass.new).sight.cut ≡ true) × (held_by pass.new ≡ []))
+            (FoundCut self.now.size (with_duty Room done_with_all (view_in pass.old))
+            (view_in pass.new) × (held_by pass.new ≡ []))
             ((bare (view_in pass.new) ≡ bare (view_in pass.old)) × (held_by pass.new ≡ [])
             × (4611686018427387904 ≤ (view_in pass.new).sight.top))
             ((bare (view_in pass.new) ≡ bare (view_in pass.old)) × (held_by pass.new ≡ [])

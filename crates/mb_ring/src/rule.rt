@@ -89,7 +89,7 @@ impl<T> Play<Option<T>, View<T>> for Cuts {
     ghost then = { exchanging (λ v. owes_both (did_cut v)) };
 }
 
-/// An exchange on a list.
+/// An exchange on a list that gives and takes no token.
 pub struct Exchanges<Q, F> {
     of: PhantomData<(Q, F)>,
 }
@@ -99,6 +99,30 @@ impl<T, Q: AnyList, F: Effect> Play<Option<T>, View<T>> for Exchanges<Q, F> {
     ghost use Rattle.mb_ring.specs.Steps.{exchanging};
 
     ghost then = { exchanging (with_duty Q.want F.of) };
+}
+
+/// The exchange that gives a token of a list.
+pub struct Gives<Q, F> {
+    of: PhantomData<(Q, F)>,
+}
+
+impl<T, Q: AnyList, F: Effect> Play<Option<T>, View<T>> for Gives<Q, F> {
+    ghost use Rattle.mb_ring.specs.Moves.{gives_token, with_duty};
+    ghost use Rattle.mb_ring.specs.Steps.{exchanging};
+
+    ghost then = { exchanging (λ v. with_duty Q.want F.of (gives_token Q.want v)) };
+}
+
+/// The exchange that takes a token of a list.
+pub struct Takes<Q, F> {
+    of: PhantomData<(Q, F)>,
+}
+
+impl<T, Q: AnyList, F: Effect> Play<Option<T>, View<T>> for Takes<Q, F> {
+    ghost use Rattle.mb_ring.specs.Moves.{takes_token, with_duty};
+    ghost use Rattle.mb_ring.specs.Steps.{exchanging};
+
+    ghost then = { exchanging (λ v. with_duty Q.want F.of (takes_token Q.want v)) };
 }
 
 /// A load of a list that changes what is owed, whatever it finds.

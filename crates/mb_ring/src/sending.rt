@@ -1,6 +1,6 @@
 //! The calls of senders.
-ghost use Rattle.std.specs.Prelude.{None, Some, [], ℕ, ◌%◌, ◌+◌, ◌<◌, ◌∷◌, ◌≡◌, ◌≤◌};
-ghost use Rattle.mb_ring.specs.{Becomes, IsClosed, IsStill, KnowsCut, MaySend, Member, Nothing, OfCut, OfDraw, Room, SawAllGot, Values};
+ghost use Rattle.std.specs.Prelude.{List, None, Some, [], ℕ, ◌%◌, ◌+◌, ◌<◌, ◌∷◌, ◌≡◌, ◌≤◌};
+ghost use Rattle.mb_ring.specs.{Becomes, Event, IsClosed, IsStill, KnowsCut, MaySend, Member, Nothing, OfCut, OfDraw, Room, SawAllGot, Values};
 ghost use Rattle.mb_ring.specs.{Writes, bare, did_cut, drew, ended, held_by, looked, owes_both};
 ghost use Rattle.mb_ring.specs.{owes_wake, sees_cut, sees_full, spot, view_in, with_duty};
 
@@ -15,10 +15,9 @@ use std::marker::Brand;
 impl<T: Drop, A: Allocator + Drop> Ring<T, A> {
     /// Draws the next position for this value, which counts as sent from then on, and pays one look for room that is owed.
     /// The pass has to mark the position, and then owes a wake to one that waits for values.
-    /// "Full" comes with the number claimed at the last access. All that the pass had received is below it, and at least
-    /// as many more positions are drawn as there are slots. Only the body shows that both numbers were exact at one
-    /// moment: it loads the number drawn first, and the number claimed later. If the pass was told before
-    /// that the ring is cut, or that no value can come, the answer is "Closed". Three accesses at most.
+    /// "Full" comes with the number claimed at the last access. At that access, as many values waited as there are slots
+    /// ([`crate::laws::looks_are_true`]). All that the pass had received is below that number. If the pass cut the ring,
+    /// or was told before that it is cut, or that no value can come, the answer is "Closed". Three accesses at most.
     pub fn draw(&self, pass: &mut Pass<T>, value: &T) -> Draw
         requires ring { pass.old.seat.table_id ≡ self.now.table.shared.table_id }
         requires member { (view_in pass.old).role ≡ Member }
@@ -31,8 +30,8 @@ impl<T: Drop, A: Allocator + Drop> Ring<T, A> {
             × (bare (view_in pass.new) ≡ bare (with_duty Room looked
             (with_duty Values owes_wake (drew at value.now (view_in pass.old)))))
             × MaySend (view_in pass.old))
-            ((t : ℕ) × (bare (view_in pass.new)
-            ≡ bare (sees_full t (with_duty Room looked (view_in pass.old))))
+            ((t : ℕ) × (w : List Event) × (bare (view_in pass.new)
+            ≡ bare (sees_full t w (with_duty Room looked (view_in pass.old))))
             × SawAllGot (view_in pass.new) × (held_by pass.new ≡ [])
             × ((view_in pass.old).known.taken ≤ t)
             × ((view_in pass.old).known.drawn ≤ t + self.now.size))

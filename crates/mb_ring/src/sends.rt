@@ -1,8 +1,9 @@
 //! The calls of senders that wait: a send that sleeps until there is room.
 ghost use Rattle.std.specs.Prelude.{IfErr, IfOk, None, [], true, ℕ, ◌%◌, ◌<◌, ◌∷◌, ◌≡◌, ◌≤◌, ◌⊎◌, ⊤};
-ghost use Rattle.mb_ring.specs.{Becomes, IsCalm, IsFree, IsStill, MaySend, Member, Nothing, OfNotSent, OfPlace, Room, SawFull, Values, Writes};
-ghost use Rattle.mb_ring.specs.{blinded, calm, did_cut, done, done_with_all, drew, ended, falls_asleep, found_full, has_closed, has_woken, held_by};
-ghost use Rattle.mb_ring.specs.{leaves, looked, owes_wake, sees_cut, sent_at, spot, value_of, view_in, with_duty};
+ghost use Rattle.mb_ring.specs.{Becomes, BecomesUncounted, IsCalm, IsFree, IsShutOut, IsStill, KnowsCut, MaySend, Member, Nothing, OfNotSent};
+ghost use Rattle.mb_ring.specs.{OfPlace, Room, SawFull, Values, Writes, blinded, calm, did_cut, done, done_with_all, drew, ended, falls_asleep};
+ghost use Rattle.mb_ring.specs.{found_full, gives_tokens, has_closed, has_woken, held_by, leaves, looked, marked_to, owes_wake, sees_cut, sent_at, spot};
+ghost use Rattle.mb_ring.specs.{uncounted, value_of, view_in, with_duty};
 
 use crate::answers::Draw;
 use crate::lists::{ForRoom, ForValues};
@@ -41,8 +42,10 @@ impl<T: Drop, A: Allocator + Drop> Ring<T, A> {
         requires member { (view_in pass.old).role ≡ Member }
         requires idle { ((view_in pass.old).half ≡ Nothing) × (held_by pass.old ≡ []) }
         ensures pass { IsStill pass.old pass.new }
+        ensures mark { marked_to (view_in pass.old) ≤ marked_to (view_in pass.new) }
         ensures found { found_full (view_in pass.old) ≤ found_full (view_in pass.new) }
-        ensures open { OfPlace result (λ _. ⊤) (MaySend (view_in pass.old)) ⊤ ⊤ }
+        ensures open { OfPlace result (λ _. ⊤) (MaySend (view_in pass.old)) ⊤
+            (MaySend (view_in pass.old)) }
         ensures answer { OfPlace result
             (λ at. (at < 4611686018427387904)
             × (held_by pass.new ≡ (at % self.now.size, None) ∷ [])
@@ -78,6 +81,7 @@ impl<T: Drop, A: Allocator + Drop> Ring<T, A> {
         requires fresh { 0 < (view_in pass.old).duty.room.fresh }
         requires idle { ((view_in pass.old).half ≡ Nothing) × (held_by pass.old ≡ []) }
         ensures pass { IsStill pass.old pass.new }
+        ensures mark { marked_to (view_in pass.old) ≤ marked_to (view_in pass.new) }
         ensures found { found_full (view_in pass.old) ≤ found_full (view_in pass.new) }
         ensures answer { OfPlace result
             (λ at. (at < 4611686018427387904)
@@ -116,7 +120,8 @@ impl<T: Drop, A: Allocator + Drop> Ring<T, A> {
         requires held { held_by pass.old ≡ (at % self.now.size, None) ∷ [] }
         requires owes { 0 < (view_in pass.old).duty.values.wakes }
         ensures pass { IsStill pass.old pass.new }
-        ensures given { view_in pass.new ≡ with_duty Values has_woken (ended (view_in pass.old)) }
+        ensures given { uncounted (view_in pass.new)
+            ≡ uncounted (with_duty Values has_woken (ended (view_in pass.old))) }
         ensures held { held_by pass.new ≡ [] }
     {
         self.mark(pass, at, value);
@@ -125,6 +130,7 @@ impl<T: Drop, A: Allocator + Drop> Ring<T, A> {
 
     /// Sends a value, and wakes a receiver for it. The error gives the value back. It does not sleep, but yields while the
     /// next slot is claimed and not read. A pass that was told that the ring is cut or over sends no more.
+    #[tactic(auto, using(crate::proofs::SendMoves::knows_nothing))]
     pub fn try_send<R: Wait>(&self, rt: &R, pass: &mut Pass<T>, value: T) -> Result<(), NotSent<T>>
         requires ring { pass.old.seat.table_id ≡ self.now.table.shared.table_id }
         requires free { IsFree pass.old }
@@ -137,6 +143,9 @@ impl<T: Drop, A: Allocator + Drop> Ring<T, A> {
             × OfNotSent e (SawFull self.now.size (view_in pass.old) (view_in pass.new))
             ((view_in pass.new).sight.cut ≡ true)
             (4611686018427387904 ≤ (view_in pass.new).sight.top)) }
+        ensures told { KnowsCut (view_in pass.old) → IsShutOut result }
+        ensures mark { marked_to (view_in pass.old) ≤ marked_to (view_in pass.new) }
+        ensures found { found_full (view_in pass.old) ≤ found_full (view_in pass.new) }
         ensures free { IsFree pass.new }
     {
         match self.find_place(rt, pass, &value) {
@@ -156,7 +165,7 @@ impl<T: Drop, A: Allocator + Drop> Ring<T, A> {
         requires leaving { 0 < (view_in pass.old).duty.room.leaving }
         requires owes { 0 < (view_in pass.old).duty.room.closing }
         ensures pass { IsStill pass.old pass.new }
-        ensures left { Becomes pass.old pass.new
+        ensures left { BecomesUncounted pass.old pass.new
             (with_duty Room leaves (with_duty Room has_closed (view_in pass.old))) }
     {
         self.pay_all::<ForRoom, R>(rt, pass);
@@ -168,7 +177,7 @@ impl<T: Drop, A: Allocator + Drop> Ring<T, A> {
         requires ring { pass.old.seat.table_id ≡ self.now.table.shared.table_id }
         requires fresh { 0 < (view_in pass.old).duty.room.fresh }
         ensures pass { IsStill pass.old pass.new }
-        ensures left { Becomes pass.old pass.new
+        ensures left { BecomesUncounted pass.old pass.new
             (with_duty Room leaves (with_duty Room done (view_in pass.old))) }
     {
         self.go_unseen::<ForRoom>(pass);
@@ -181,13 +190,15 @@ impl<T: Drop, A: Allocator + Drop> Ring<T, A> {
         requires ring { pass.old.seat.table_id ≡ self.now.table.shared.table_id }
         requires owes { 0 < (view_in pass.old).duty.room.looks }
         ensures pass { IsStill pass.old pass.new }
-        ensures paid { Becomes pass.old pass.new (with_duty Room looked (view_in pass.old)) }
+        ensures paid { BecomesUncounted pass.old pass.new
+            (with_duty Room looked (view_in pass.old)) }
     {
         self.hand_on::<ForRoom>(pass);
         self.pay::<ForRoom, R>(rt, pass);
     }
 
     /// Sends a value, and sleeps until there is room for it. It is never told that the ring is full.
+    #[tactic(auto, using(crate::proofs::SendMoves::knows_nothing))]
     pub fn send<R: Wait>(&self, rt: &R, pass: &mut Pass<T>, value: T) -> Result<(), NotSent<T>>
         requires ring { pass.old.seat.table_id ≡ self.now.table.shared.table_id }
         requires free { IsFree pass.old }
@@ -200,6 +211,9 @@ impl<T: Drop, A: Allocator + Drop> Ring<T, A> {
             × OfNotSent e ⊥
             ((view_in pass.new).sight.cut ≡ true)
             (4611686018427387904 ≤ (view_in pass.new).sight.top)) }
+        ensures told { KnowsCut (view_in pass.old) → IsShutOut result }
+        ensures mark { marked_to (view_in pass.old) ≤ marked_to (view_in pass.new) }
+        ensures found { found_full (view_in pass.old) ≤ found_full (view_in pass.new) }
         ensures free { IsFree pass.new }
     {
         // Room that is there is taken without the list.
@@ -243,6 +257,7 @@ impl<T: Drop, A: Allocator + Drop> Ring<T, A> {
 
     /// Sends a value as [`Ring::send`] until a deadline. The error is "full" if that comes first, or if there is no clock:
     /// in this call, the ring was seen full. While the next slot is claimed and not read, it goes on past the deadline.
+    #[tactic(auto, using(crate::proofs::SendMoves::knows_nothing))]
     pub fn send_by<R: Wait + Clock>(
         &self,
         rt: &R,
@@ -261,6 +276,9 @@ impl<T: Drop, A: Allocator + Drop> Ring<T, A> {
             × OfNotSent e (SawFull self.now.size (view_in pass.old) (view_in pass.new))
             ((view_in pass.new).sight.cut ≡ true)
             (4611686018427387904 ≤ (view_in pass.new).sight.top)) }
+        ensures told { KnowsCut (view_in pass.old) → IsShutOut result }
+        ensures mark { marked_to (view_in pass.old) ≤ marked_to (view_in pass.new) }
+        ensures found { found_full (view_in pass.old) ≤ found_full (view_in pass.new) }
         ensures free { IsFree pass.new }
     {
         // Room that is there is taken without the list.
@@ -311,7 +329,8 @@ impl<T: Drop, A: Allocator + Drop> Ring<T, A> {
         requires free { IsFree pass.old }
         ensures pass { IsStill pass.old pass.new }
         ensures cut { Becomes pass.old pass.new (sees_cut (view_in pass.old))
-            ⊎ Becomes pass.old pass.new (did_cut (view_in pass.old)) }
+            ⊎ ((m : ℕ) × (n : ℕ) × Becomes pass.old pass.new
+            (gives_tokens Room n (gives_tokens Values m (did_cut (view_in pass.old))))) }
     {
         for _ in rt.forever() {
             match self.cut(pass) {

@@ -1,5 +1,5 @@
 //! What a pass or the hub of a ring knows. No value of these types is made: they exist in proofs alone.
-use mb_segment::{Account, Duty, Half, Known, Role};
+use mb_segment::{Account, Duty, Event, Half, Known, Role, Tokens};
 use std::collections::LinkedList;
 
 /// What a pass saw of the words. It stays true.
@@ -16,13 +16,15 @@ pub struct Sight {
     pub cut: bool,
     /// It saw the ring empty when as many positions as this were drawn. As many are claimed.
     pub empty: u64,
-    /// How often it saw the ring empty.
-    pub found: u64,
+    /// How often it saw the ring empty, and the walk up to the last time.
+    pub empty_looks: u64,
+    pub empty_walk: LinkedList<Event>,
     /// It saw the ring full when as many positions as this were claimed. As many are claimed, and more are drawn: one for
     /// each slot.
     pub full: Option<u64>,
-    /// How often it saw the ring full.
-    pub refused: u64,
+    /// How often it saw the ring full, and the walk up to the last time.
+    pub full_looks: u64,
+    pub full_walk: LinkedList<Event>,
 }
 
 /// What one waits for. Each has a list of those that wait for it.
@@ -40,6 +42,12 @@ pub struct Duties {
     pub room: Duty,
 }
 
+/// How many tokens for values were given and taken, and how many for room.
+pub struct Tallies {
+    pub values: Tokens,
+    pub room: Tokens,
+}
+
 /// What the pass or the hub did, has begun, owes and saw.
 pub struct View<T> {
     pub role: Role,
@@ -47,6 +55,8 @@ pub struct View<T> {
     pub known: Known,
     pub half: Half<T>,
     pub duty: Duties,
+    /// What it gave and took of the tokens. The hub counts those of the passes that came back.
+    pub tokens: Tallies,
     pub sight: Sight,
     /// It was told that no value can come any more.
     pub over: bool,

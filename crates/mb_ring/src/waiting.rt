@@ -1,6 +1,7 @@
 //! What waits, and is the same for both lists: paying what is owed, and sleep.
-ghost use Rattle.std.specs.Prelude.{false, true, ◌<◌, ◌≡◌};
-ghost use Rattle.mb_ring.specs.{Becomes, IsStill, Member, enters, gives_up, has_closed, has_woken, leaves, part, view_in, wakes_up, with_duty};
+ghost use Rattle.std.specs.Prelude.{false, true, ℕ, ◌<◌, ◌≡◌, ◌≤◌};
+ghost use Rattle.mb_ring.specs.{Becomes, BecomesUncounted, IsStill, Member, enters, gives_tokens, gives_up, has_closed, has_woken, leaves, part};
+ghost use Rattle.mb_ring.specs.{takes_token, view_in, wakes_up, with_duty};
 
 use crate::lists::AnyList;
 use crate::ring::{Pass, Ring};
@@ -10,12 +11,13 @@ use std::sync::Wait;
 use std::time::{Clock, Duration, Instant};
 
 impl<T: Drop, A: Allocator + Drop> Ring<T, A> {
-    /// Pays one wake that is owed.
+    /// Pays one wake that is owed. It gives one token at most, and wakes a thread of that list for it.
     pub fn pay<Q: AnyList, R: Wait>(&self, rt: &R, pass: &mut Pass<T>)
         requires ring { pass.old.seat.table_id ≡ self.now.table.shared.table_id }
         requires owes { 0 < (part Q.want (view_in pass.old).duty).wakes }
         ensures pass { IsStill pass.old pass.new }
-        ensures paid { Becomes pass.old pass.new (with_duty Q.want has_woken (view_in pass.old)) }
+        ensures paid { (n : ℕ) × (n ≤ 1) × Becomes pass.old pass.new
+            (with_duty Q.want has_woken (gives_tokens Q.want n (view_in pass.old))) }
     {
         for _ in rt.forever() {
             match self.wake::<Q>(pass) {
@@ -30,12 +32,13 @@ impl<T: Drop, A: Allocator + Drop> Ring<T, A> {
         unreachable!()
     }
 
-    /// Gives a token to each that waits, for a pass that owes tokens to all.
+    /// Gives a token to each that waits, and wakes a thread for each, for a pass that owes tokens to all.
     pub fn pay_all<Q: AnyList, R: Wait>(&self, rt: &R, pass: &mut Pass<T>)
         requires ring { pass.old.seat.table_id ≡ self.now.table.shared.table_id }
         requires owes { 0 < (part Q.want (view_in pass.old).duty).closing }
         ensures pass { IsStill pass.old pass.new }
-        ensures paid { Becomes pass.old pass.new (with_duty Q.want has_closed (view_in pass.old)) }
+        ensures paid { (n : ℕ) × Becomes pass.old pass.new
+            (with_duty Q.want has_closed (gives_tokens Q.want n (view_in pass.old))) }
     {
         for _ in rt.forever() {
             match self.wake_all::<Q>(pass) {
@@ -68,7 +71,8 @@ impl<T: Drop, A: Allocator + Drop> Ring<T, A> {
         requires ring { pass.old.seat.table_id ≡ self.now.table.shared.table_id }
         requires leaving { 0 < (part Q.want (view_in pass.old).duty).leaving }
         ensures pass { IsStill pass.old pass.new }
-        ensures left { Becomes pass.old pass.new (with_duty Q.want leaves (view_in pass.old)) }
+        ensures left { BecomesUncounted pass.old pass.new
+            (with_duty Q.want leaves (view_in pass.old)) }
     {
         for _ in rt.forever() {
             match self.leave::<Q>(pass) {
@@ -88,7 +92,8 @@ impl<T: Drop, A: Allocator + Drop> Ring<T, A> {
         requires ring { pass.old.seat.table_id ≡ self.now.table.shared.table_id }
         requires asleep { 0 < (part Q.want (view_in pass.old).duty).asleep }
         ensures pass { IsStill pass.old pass.new }
-        ensures woken { Becomes pass.old pass.new (with_duty Q.want wakes_up (view_in pass.old)) }
+        ensures woken { Becomes pass.old pass.new
+            (with_duty Q.want wakes_up (takes_token Q.want (view_in pass.old))) }
     {
         for _ in rt.forever() {
             match self.accept::<Q>(pass) {
@@ -111,7 +116,8 @@ impl<T: Drop, A: Allocator + Drop> Ring<T, A> {
         requires asleep { 0 < (part Q.want (view_in pass.old).duty).asleep }
         ensures pass { IsStill pass.old pass.new }
         ensures woken { result ≡ true
-            → Becomes pass.old pass.new (with_duty Q.want wakes_up (view_in pass.old)) }
+            → Becomes pass.old pass.new
+            (with_duty Q.want wakes_up (takes_token Q.want (view_in pass.old))) }
         ensures late { result ≡ false
             → Becomes pass.old pass.new (with_duty Q.want gives_up (view_in pass.old)) }
     {

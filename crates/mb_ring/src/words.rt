@@ -1,6 +1,6 @@
 //! Each atomic step on the numbers drawn and claimed, and on the words of the slots.
 ghost use Rattle.std.specs.Prelude.{List, None, Option, Some, [], ℕ, ◌%◌, ◌*◌, ◌+◌, ◌<◌, ◌∷◌, ◌≡◌, ◌≢◌, ◌≤◌};
-ghost use Rattle.mb_ring.specs.{Becomes, IsStill, KnowsCut, KnowsOver, MaySend, MayTake, Member, Nothing, Room, SawAllGot, SawAllTaken, Values};
+ghost use Rattle.mb_ring.specs.{Becomes, Event, IsStill, KnowsCut, KnowsOver, MaySend, MayTake, Member, Nothing, Room, SawAllGot, SawAllTaken, Values};
 ghost use Rattle.mb_ring.specs.{did_cut, done, done_with_all, dozes, drew, falls_asleep, gives_up, has_closed, held_by, looked, marked_to, owes_both};
 ghost use Rattle.mb_ring.specs.{owes_wake, sees_cut, sees_drawn, sees_empty, sees_full, sees_mark, sees_room, sees_taken, told, took, view_in, with_duty};
 
@@ -100,8 +100,8 @@ impl<T: Drop, A: Allocator + Drop> Ring<T, A> {
         requires ring { pass.old.seat.table_id ≡ self.now.table.shared.table_id }
         ensures pass { IsStill pass.old pass.new }
         ensures full { result + self.now.size ≤ (view_in pass.old).sight.top
-            → Becomes pass.old pass.new
-            (sees_full result (with_duty Room looked (view_in pass.old)))
+            → (w : List Event) × Becomes pass.old pass.new
+            (sees_full result w (with_duty Room looked (view_in pass.old)))
             × SawAllGot (view_in pass.new) }
         ensures room { (view_in pass.old).sight.top < result + self.now.size
             → Becomes pass.old pass.new (sees_taken result (view_in pass.old)) }
@@ -120,7 +120,8 @@ impl<T: Drop, A: Allocator + Drop> Ring<T, A> {
         requires fresh { 0 < (view_in pass.old).duty.room.fresh }
         ensures pass { IsStill pass.old pass.new }
         ensures full { result + self.now.size ≤ (view_in pass.old).sight.top
-            → Becomes pass.old pass.new (sees_full result (with_duty Room dozes (view_in pass.old)))
+            → (w : List Event) × Becomes pass.old pass.new
+            (sees_full result w (with_duty Room dozes (view_in pass.old)))
             × SawAllGot (view_in pass.new) }
         ensures room { (view_in pass.old).sight.top < result + self.now.size
             → Becomes pass.old pass.new (sees_taken result (view_in pass.old)) }
@@ -281,8 +282,8 @@ impl<T: Drop, A: Allocator + Drop> Ring<T, A> {
             (sees_drawn (result % 9223372036854775808) (view_in pass.old)) }
         ensures empty { result % 9223372036854775808 ≤ (view_in pass.old).sight.low
             → result < 9223372036854775808
-            → Becomes pass.old pass.new
-            (sees_empty result (with_duty Values looked (view_in pass.old)))
+            → (w : List Event) × Becomes pass.old pass.new
+            (sees_empty result w (with_duty Values looked (view_in pass.old)))
             × SawAllTaken (view_in pass.new) × ((view_in pass.old).known.drawn ≤ result) }
         ensures over { result % 9223372036854775808 ≤ (view_in pass.old).sight.low
             → 9223372036854775808 ≤ result
@@ -306,8 +307,8 @@ impl<T: Drop, A: Allocator + Drop> Ring<T, A> {
             (sees_drawn (result % 9223372036854775808) (view_in pass.old)) }
         ensures empty { result % 9223372036854775808 ≤ (view_in pass.old).sight.low
             → result < 9223372036854775808
-            → Becomes pass.old pass.new
-            (sees_empty result (with_duty Values falls_asleep (view_in pass.old)))
+            → (w : List Event) × Becomes pass.old pass.new
+            (sees_empty result w (with_duty Values falls_asleep (view_in pass.old)))
             × SawAllTaken (view_in pass.new) × ((view_in pass.old).known.drawn ≤ result) }
         ensures over { result % 9223372036854775808 ≤ (view_in pass.old).sight.low
             → 9223372036854775808 ≤ result

@@ -2,7 +2,7 @@
 pub use Rattle.std.proofs.Common.{Bool, List, [], append_assoc, ap, arith, eq-eqb, false, if◌then◌else◌, inl, inr, length, length-append}
 pub use Rattle.std.proofs.Common.{nat_eq, ne_eqb, refl, subst, suc, sym, true, true≢false, zero, ℕ, ⊎_elim}
 pub use Rattle.std.proofs.Common.{◌%◌, ◌*◌, ◌+◌, ◌++◌, ◌-◌, ◌<◌, ◌∙◌, ◌∷◌, ◌≡◌, ◌≢◌, ◌≤◌, ◌⊎◌}
-pub use Rattle.std.specs.Prelude.{None, Option, Some, map, replicate, slice_index, slice_set, ◌==◌}
+pub use Rattle.std.specs.Prelude.{None, Option, Some, map, max, replicate, slice_index, slice_set, ◌==◌}
 pub use mathlib.Core.Option.{none, some, some-injective, some-ne-none}
 pub use mathlib.Core.Logic.{dite}
 pub use native.Mathlib.Decide.{dec_le, dec_lt, ℕ_discrete}

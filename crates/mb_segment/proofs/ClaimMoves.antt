@@ -3,7 +3,7 @@ use Rattle.mb_segment.proofs.Base.{Allows, List, Some, [], ap, append_assoc, ari
 use Rattle.mb_segment.proofs.Base.{either, get_elem?, inl, inr, length, length-append, none, refl}
 use Rattle.mb_segment.proofs.Base.{set_else, slice_index, slice_set, some, step, subst, suc, sym, takes, ℕ}
 use Rattle.mb_segment.proofs.Base.{⊎_elim, ◌*◌, ◌++◌, ◌+◌, ◌-◌, ◌<◌, ◌==◌, ◌∙◌, ◌∷◌, ◌≡◌, ◌≢◌, ◌≤◌}
-use Rattle.mb_segment.specs.Vocabulary.{Claim, Duty, Entry, Half, HalfFits, HasHalf, History, Homes, In}
+use Rattle.mb_segment.specs.Vocabulary.{Claim, Claimed, Duty, Entry, Half, HalfFits, HasHalf, History, Homes, In}
 use Rattle.mb_segment.specs.Vocabulary.{Keeps, Member, Nothing, Reads, Sat, Taken, Undrawn, View, Waiting}
 use Rattle.mb_segment.specs.Vocabulary.{Writes, all_entries, claiming, done, drawn, entries, free}
 use Rattle.mb_segment.specs.Vocabulary.{got_by, looked, row, spot, spots_by, taken, took, with_duty}
@@ -11,6 +11,7 @@ use Rattle.mb_segment.proofs.Spots.{below_length, entries_append, entry_of, hear
 use Rattle.mb_segment.proofs.Spots.{to_own}
 use Rattle.mb_segment.proofs.Halves.{half_else, half_here, match_kept, may_take, no_hub, no_reads, no_spent, no_writes}
 use Rattle.mb_segment.proofs.Kept.{Goes, Next, Same, St, at1, exchanges, moved}
+use Rattle.mb_segment.proofs.Walks.{a_claim, looked_still}
 
 -- pass n claims position `old`, the first that waits. It saw that it was marked
 module _ {T : Type 0} (s : St T) (k : Keeps s) (n : ℕ) (v w : View T) (at : get_elem? s.views n ≡ some v) (old : ℕ)
@@ -76,21 +77,19 @@ module _ {T : Type 0} (s : St T) (k : Keeps s) (n : ℕ) (v w : View T) (at : ge
       (λ (t : get_elem? k.history.claims j ≡ some c).
       let under = below_length k.history.claims j c t in
       let ne : j ≢ old = λ q. omega arith in
-      ⊎_elim
-      (λ z. inl (
-        z.0,
-        half_else s.views n v w at c.to (Reads (spot j c.entry.value))
-            (no_reads v.half (spot j c.entry.value) idle) z.1,
+      let y = k.taken_ j c t in (
+        y.0,
+        ⊎_elim
+            (λ z. inl (half_else s.views n v w at c.to (Reads (spot j c.entry.value))
+            (no_reads v.half (spot j c.entry.value) idle) z))
+            (λ z. inr (set_else s.homes old j none ne ∙ z)) y.1,
       ))
-      (λ z. inr (z.0, set_else s.homes old j none ne ∙ z.1))
-      (k.taken_ j c t))
       (λ (t : (j ≡ length k.history.claims) × (claim ≡ c)).
-      let q : j ≡ old = t.0 ∙ sym is in
-      inl (
+      let q : j ≡ old = t.0 ∙ sym is in (
         subst (λ (i : ℕ). get_elem? k.states i ≡ some 1) (sym q) marked.0,
-        subst (λ (y : ℕ × Claim T). HasHalf (slice_set s.views n w) y.1.to (Reads (spot y.0 y.1.entry.value)))
+        inl (subst (λ (y : ℕ × Claim T). HasHalf (slice_set s.views n w) y.1.to (Reads (spot y.0 y.1.entry.value)))
             (λ i. (sym q i, t.1 i))
-            (half_here s.views n v w at (Reads (spot old b.value)) w_half),
+            (half_here s.views n v w at (Reads (spot old b.value)) w_half)),
       ))
       (snoc_at k.history.claims claim c j c_at)
 
@@ -130,12 +129,12 @@ module _ {T : Type 0} where
   first_of : (f : Duty → Duty) (slots n : ℕ) (me : Sat T) (old new : ℕ) → IsLook f me.0.duty → me.0.role ≡ Member
       → me.0.half ≡ Nothing → me.0.sight.ripe ≡ Some old → new ≡ old + 1
       → (s : St T) (k : Keeps s) → length s.homes ≡ slots → get_elem? s.views n ≡ some me.0
-      → slice_index s.words 8 ≡ old
+      → slice_index s.words 16 ≡ old
       → (rest' : List (Entry T)) → k.history.rest ≡ rest'
-      → Goes s 8 n me (claiming f (step slots 8 old new none) me) new
+      → Goes s 16 n me (claiming f (step slots 16 old new none) me) new
   first_of f slots n me old new look role idle ripe is s k homes at e [] none_there =
       let r = (k.fits n me.0 at).ripe old ripe in
-      let now_ : slice_index s.words 8 ≡ taken k.history = at1 s k in
+      let now_ : slice_index s.words 16 ≡ taken k.history = at1 s k in
       let z : length k.history.rest ≡ 0 = ap length none_there in
       absurd (r.1 (k.undrawn old (omega arith) r.0).0)
   first_of f slots n me old new look role idle ripe is s k homes at e (b ∷ bs) first =
@@ -156,24 +155,25 @@ module _ {T : Type 0} where
       let many = k.sized in
       let in_ = k.within in
       let low_ = fit.low in
-      let may = may_take k.history k.states k.cut k.hub k.roll n v fit (omega arith) in
+      let may = may_take k.history k.states k.cut k.hub k.roll n v fit (omega arith) old now_ in
       let next : new ≡ taken g = omega arith in
       let frees : free k.cut (length k.states - drawn g) ≡ free k.cut (length k.states - drawn k.history)
       = ap (λ (m : ℕ). free k.cut (length k.states - m)) sd in
       let x' : Next T = record {
         history = g;
-        words = slice_set s.words 8 new;
+        words = slice_set s.words 16 new;
         states = k.states;
         homes = slice_set s.homes old none;
         tokens = k.tokens;
         waiting = k.waiting;
         cut = k.cut;
+        walk = Claimed ∷ k.walk;
       } in (
         w,
         takes old (Some b.value),
         home.1,
         moved s k n v w x' at record {
-          words = ap (λ l. slice_set l 8 new) k.words
+          words = ap (λ l. slice_set l 16 new) k.words
               ∙ (λ i. row (sym sd i + 9223372036854775808 * k.cut) (next i)
               (k.tokens + 4294967296 * k.waiting) k.states);
           narrow = k.narrow;
@@ -220,6 +220,8 @@ module _ {T : Type 0} where
                 fit.heard;
             over = λ on. absurd (let y : length k.history.rest ≡ 0 = ap length (fit.over on).1 in omega arith);
           };
+          walk = a_claim k.walk g (length k.states) n w (looked_still s k n v w at refl (refl, refl, refl))
+              (let d = k.walked.0 in let l = k.walked.1 in (omega arith, omega arith)) k.true_;
           laws = λ L O C L' O' C' l o c le q h. let lk = look.2 in let lc = look.3 in let la = look.1 in (
             ⊎_elim (λ y. inl (omega arith)) (λ y. inr (omega arith)) q,
             ⊎_elim (λ y. inl (omega arith)) (λ y. inr (omega arith)) h,
@@ -230,22 +232,22 @@ module _ {T : Type 0} where
 
   claims_as : (f : Duty → Duty) (slots n : ℕ) (me : Sat T) (old new : ℕ) → IsLook f me.0.duty → me.0.role ≡ Member
       → me.0.half ≡ Nothing → me.0.sight.ripe ≡ Some old → new ≡ old + 1
-      → Allows Keeps slots n me 8 (λ r. either (r == old) new r) (claiming f (step slots 8 old new none) me)
+      → Allows Keeps slots n me 16 (λ r. either (r == old) new r) (claiming f (step slots 16 old new none) me)
   claims_as f slots n me old new look role idle ripe is =
-      exchanges 8 (claiming f (step slots 8 old new none) me) slots n me old new
+      exchanges 16 (claiming f (step slots 16 old new none) me) slots n me old new
       (λ s k homes at e. first_of f slots n me old new look role idle ripe is s k homes at e k.history.rest refl)
       (λ r ne. ((λ e. absurd (ne e)), λ _. (refl, refl)))
 
   pub claims : (slots n : ℕ) (me : Sat T) (old new : ℕ) → me.0.role ≡ Member → me.0.half ≡ Nothing
       → me.0.sight.ripe ≡ Some old
-      → new ≡ old + 1 → Allows Keeps slots n me 8 (λ r. either (r == old) new r)
-      (claiming looked (step slots 8 old new none) me)
+      → new ≡ old + 1 → Allows Keeps slots n me 16 (λ r. either (r == old) new r)
+      (claiming looked (step slots 16 old new none) me)
   claims slots n me old new role idle ripe is =
       claims_as looked slots n me old new (refl, refl, omega arith, refl) role idle ripe is
 
   pub claims_listed : (slots n : ℕ) (me : Sat T) (old new : ℕ) → 0 < me.0.duty.fresh → me.0.role ≡ Member
       → me.0.half ≡ Nothing
       → me.0.sight.ripe ≡ Some old → new ≡ old + 1
-      → Allows Keeps slots n me 8 (λ r. either (r == old) new r) (claiming done (step slots 8 old new none) me)
+      → Allows Keeps slots n me 16 (λ r. either (r == old) new r) (claiming done (step slots 16 old new none) me)
   claims_listed slots n me old new fresh role idle ripe is =
       claims_as done slots n me old new (omega arith, refl, omega arith, refl) role idle ripe is

@@ -1,20 +1,21 @@
--- The steps on the number drawn keep the rule: a draw, a cut, and the look before a draw.
+-- The exchanges on the number drawn keep the rule: a draw and a cut.
 use Rattle.mb_segment.proofs.Base.{Allows, List, None, Option, Some, [], ap, append_assoc, arith, at_last}
-use Rattle.mb_segment.proofs.Base.{at_longer, carried_after, dec_lt, either, eq-eqb, get_elem?, inl}
-use Rattle.mb_segment.proofs.Base.{inr, keeps, ne_eqb, stepped}
+use Rattle.mb_segment.proofs.Base.{at_longer, carried_after, either, eq-eqb, get_elem?, inl}
+use Rattle.mb_segment.proofs.Base.{inr, keeps, ne_eqb}
 use Rattle.mb_segment.proofs.Base.{length, length-append, none, refl, set_else, slice_index, slice_set}
-use Rattle.mb_segment.proofs.Base.{some, step, subst, sym, takes, true, ℕ, ⊎_elim, ◌*◌, ◌++◌, ◌+◌, ◌-◌, ◌<◌}
+use Rattle.mb_segment.proofs.Base.{some, step, subst, sym, takes, ℕ, ⊎_elim, ◌*◌, ◌++◌, ◌+◌, ◌-◌, ◌<◌}
 use Rattle.mb_segment.proofs.Base.{◌==◌, ◌∙◌, ◌∷◌, ◌≡◌, ◌≢◌, ◌≤◌, ◌⊎◌}
-use Rattle.mb_segment.specs.Vocabulary.{Duty, Entry, Half, HalfFits, HasHalf, History, Homes, In, Keeps}
+use Rattle.mb_segment.specs.Vocabulary.{Drew, Duty, Entry, Half, HalfFits, HasHalf, History, Homes, In, Keeps}
 use Rattle.mb_segment.specs.Vocabulary.{Member, Nothing, Reads, Sat, Taken, Undrawn, View, Waiting, Writes}
-use Rattle.mb_segment.specs.Vocabulary.{all_entries, asking, did_cut, drawing, drawing_picked, drawn, drew}
-use Rattle.mb_segment.specs.Vocabulary.{entries, exchanging, owes_all, owes_wake, seeing_cut, sees_cut}
-use Rattle.mb_segment.specs.Vocabulary.{row, sees_full, sent_by, spot, spots_by, taken, with_duty}
+use Rattle.mb_segment.specs.Vocabulary.{all_entries, did_cut, drawing, drawing_picked, drawn, drew}
+use Rattle.mb_segment.specs.Vocabulary.{entries, exchanging, owes_all, owes_wake}
+use Rattle.mb_segment.specs.Vocabulary.{row, sent_by, spot, spots_by, taken, with_duty}
 use Rattle.mb_segment.proofs.Spots.{all_length, below_length, by_other, by_own, heard_draw, same_some, size_set, snoc_at}
 use Rattle.mb_segment.proofs.Halves.{free_open, free_shut, half_else, half_here, match_kept, may_send, no_hub, no_reads}
 use Rattle.mb_segment.proofs.Halves.{no_spent, no_writes, uncut}
-use Rattle.mb_segment.proofs.Kept.{Goes, Next, Same, St, at0, at_rest, exchanges, loaded, moved, now}
-use Rattle.mb_segment.proofs.Kept.{settled, sighted, stays, taken_stay, waits_stay}
+use Rattle.mb_segment.proofs.Kept.{Next, Same, St, at0, exchanges, moved, now}
+use Rattle.mb_segment.proofs.Kept.{taken_stay, waits_stay}
+use Rattle.mb_segment.proofs.Walks.{a_draw, looked_still, silent}
 
 module _ {T : Type 0} (s : St T) (k : Keeps s) (n : ℕ) (v : View T) (at : get_elem? s.views n ≡ some v) (x : T)
     (old : ℕ)
@@ -77,14 +78,13 @@ module _ {T : Type 0} (s : St T) (k : Keeps s) (n : ℕ) (v : View T) (at : get_
   draw_taken j c c_at =
       let b = below_length k.history.claims j c c_at in
       let ne : j ≢ old = λ q. omega arith in
-      ⊎_elim
-      (λ z. inl (
-        z.0,
-        half_else s.views n v w at c.to (Reads (spot j c.entry.value))
-            (no_reads v.half (spot j c.entry.value) idle) z.1,
-      ))
-      (λ z. inr (z.0, set_else s.homes old j none ne ∙ z.1))
-      (k.taken_ j c c_at)
+      let t = k.taken_ j c c_at in (
+        t.0,
+        ⊎_elim
+            (λ z. inl (half_else s.views n v w at c.to (Reads (spot j c.entry.value))
+            (no_reads v.half (spot j c.entry.value) idle) z))
+            (λ z. inr (set_else s.homes old j none ne ∙ z)) t.1,
+      )
 
   draw_halves : (j : ℕ) (half : Half T) → HalfFits k.history k.states j half → HalfFits longer k.states j half
   draw_halves j Nothing f = tt
@@ -137,7 +137,7 @@ module _ {T : Type 0} where
       let open_ : k.cut ≡ 0 = omega arith in
       let now_ : old ≡ drawn h = omega arith in
       let fits_ : old < length k.states = omega arith in
-      let may = may_send h k.states k.cut k.hub k.roll n v fit role k.cutter open_ (omega arith) in
+      let may = may_send h k.states k.cut k.hub k.roll n v fit role k.cutter open_ (omega arith) old now_ in
       let g = longer s k n v at x old now_ fits_ idle w refl in
       let mo = more s k n v at x old now_ fits_ idle w refl in
       let lent_ = size_set s.homes old none in
@@ -153,6 +153,7 @@ module _ {T : Type 0} where
         tokens = k.tokens;
         waiting = k.waiting;
         cut = k.cut;
+        walk = Drew ∷ k.walk;
       } in (
         w,
         takes old None,
@@ -203,6 +204,8 @@ module _ {T : Type 0} where
             heard = heard_draw h g old x v (omega arith) (omega arith) (omega arith) fit.heard;
             over = λ on. absurd (let y = (fit.over on).0 in omega arith);
           };
+          walk = a_draw k.walk h (length k.states) n w (looked_still s k n v w at refl (refl, refl, refl))
+              (entry s k n v at x old now_ fits_ idle w refl) k.walked k.true_;
           laws = λ L O C L' O' C' l o c le q h'. (
             ⊎_elim (λ y. inl (omega arith)) (λ y. inr (omega arith)) q,
             ⊎_elim (λ y. inl (omega arith)) (λ y. inr (⊎_elim (λ z. omega arith) (λ z. omega arith) debt.5)) h',
@@ -248,7 +251,7 @@ module _ {T : Type 0} where
       (draws_as owes_all x slots n me old new (refl, refl, refl, omega arith, omega arith, inr (omega arith)) role
       idle (omega arith) is)
 
-  -- ---- a cut, and a look before a draw
+  -- ---- a cut
   half_cut : (h : History T) (c : Option ℕ) (states : List ℕ) (j : ℕ) (half : Half T) → HalfFits h states j half
       → HalfFits record h { cutter = c } states j half
   half_cut h c states j Nothing f = tt
@@ -322,6 +325,8 @@ module _ {T : Type 0} where
             heard = fit.heard;
             over = λ on. (shut_, (fit.over on).1);
           };
+          walk = silent k.walk g (length k.states) n w (looked_still s k n v w at refl (refl, refl, refl)) k.walked
+              k.true_;
           laws = λ L O C L' O' C' l o c le q h'. (
             ⊎_elim (λ y. inl (omega arith)) (λ y. inr (omega arith)) q,
             inr (omega arith),
@@ -330,70 +335,3 @@ module _ {T : Type 0} where
         ((λ _. (refl, refl)), λ ne. absurd (ne e)),
       ))
       (λ r ne. ((λ e. absurd (ne e)), λ _. (refl, refl)))
-
-  -- a pass that finds the top bit knows that the segment is cut
-  cut_seen : (n : ℕ) (me : Sat T) (s : St T) (k : Keeps s) → get_elem? s.views n ≡ some me.0
-      → 9223372036854775808 ≤ slice_index s.words 0
-      → Keeps (stepped s 0 (slice_index s.words 0) n me.1 (sees_cut me.0) keeps)
-  cut_seen n me s k at high =
-      let now_ = at0 s k in let small = k.small in let in_ = k.within in
-      let fit = k.fits n me.0 at in
-      loaded s 0 n me.1 (sees_cut me.0) (settled s k n me.0 (sees_cut me.0) at refl refl refl refl refl
-      (sighted k.history k.states k.cut k.hub k.roll n me.0 record me.0.sight { cut = true } fit fit.low fit.ripe
-      fit.full (λ _. omega arith) fit.empty)
-      (at_rest s k me.0 (sees_cut me.0) refl))
-
-  sees_cut_at : (slots n : ℕ) (me : Sat T) (s : St T) (k : Keeps s) → get_elem? s.views n ≡ some me.0
-      → Dec (slice_index s.words 0 < 9223372036854775808)
-      → Goes s 0 n me (seeing_cut (step slots 0 0 0 none) me) (slice_index s.words 0)
-  sees_cut_at slots n me s k at (yes low) =
-      (me.0, keeps, tt, stays s k 0 n me.0 at me.1, ((λ le. absurd (omega arith)), λ _. (refl, refl)))
-  sees_cut_at slots n me s k at (no high) = (
-    sees_cut me.0,
-    keeps,
-    tt,
-    cut_seen n me s k at (omega arith),
-    ((λ _. (refl, refl)), λ lt. absurd (high lt)),
-  )
-
-  pub sees_cuts : (slots n : ℕ) (me : Sat T)
-      → Allows Keeps slots n me 0 (λ r. r) (seeing_cut (step slots 0 0 0 none) me)
-  sees_cuts slots n me s k homes at small =
-      sees_cut_at slots n me s k at (dec_lt (slice_index s.words 0) 9223372036854775808)
-
-  asks_at : (slots n : ℕ) (me : Sat T) (s : St T) (k : Keeps s) → length s.homes ≡ slots → get_elem? s.views n
-      ≡ some me.0
-      → Dec (slice_index s.words 0 < 9223372036854775808) → Dec (slice_index s.words 0 < slots)
-      → Goes s 0 n me (asking (step slots 0 0 0 none) me) (slice_index s.words 0)
-  asks_at slots n me s k homes at (no high) small_ =
-      let many = k.sized in let small = k.small in (
-        sees_cut me.0,
-        keeps,
-        tt,
-        cut_seen n me s k at (omega arith),
-        ((λ _. (refl, refl)), (λ lt _. absurd (high lt)), λ lt. absurd (omega arith)),
-      )
-  asks_at slots n me s k homes at (yes low) (yes less) = (
-    me.0,
-    keeps,
-    tt,
-    stays s k 0 n me.0 at me.1,
-    ((λ le. absurd (omega arith)), (λ _ le. absurd (omega arith)), λ _. (refl, refl)),
-  )
-  asks_at slots n me s k homes at (yes low) (no all) =
-      let now_ = at0 s k in let many = k.sized in let small = k.small in let in_ = k.within in
-      let fit = k.fits n me.0 at in (
-        sees_full me.0,
-        keeps,
-        tt,
-        loaded s 0 n me.1 (sees_full me.0) (settled s k n me.0 (sees_full me.0) at refl refl refl refl refl
-            (sighted k.history k.states k.cut k.hub k.roll n me.0 record me.0.sight { full = true } fit fit.low
-            fit.ripe
-            (λ _. omega arith) fit.cut_ fit.empty)
-            (at_rest s k me.0 (sees_full me.0) refl)),
-        ((λ le. absurd (omega arith)), (λ _ _. (refl, refl)), λ lt. absurd (all lt)),
-      )
-
-  pub asks : (slots n : ℕ) (me : Sat T) → Allows Keeps slots n me 0 (λ r. r) (asking (step slots 0 0 0 none) me)
-  asks slots n me s k homes at small = asks_at slots n me s k homes at
-      (dec_lt (slice_index s.words 0) 9223372036854775808) (dec_lt (slice_index s.words 0) slots)

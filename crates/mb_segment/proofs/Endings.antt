@@ -80,7 +80,7 @@ module _ {T : Type 0} where
       receivers = λ i c c_at. let d = taker s k i c c_at in in_roll c.to d.0 d.1;
       closer = λ j e. let d = closer s k j e in in_roll j d.0 d.1;
       left_is = refl;
-      heeds = (k.fits n v at).heard.2.2;
+      heeds = (k.fits n v at).heard.3.2;
     }
 
     pub stands : (slots : List (Option T)) → ((j : ℕ) (y : Option T) → get_elem? s.homes j ≡ some (some y)
@@ -95,7 +95,7 @@ module _ {T : Type 0} where
   -- what the words and slots of a closed segment tell
   pub closes : (n : ℕ) (v : View T) (ws : List ℕ) (slots : List (Option T)) (drawn_ taken_ : ℕ) → v.role ≡ Issuer
       → v.out ≡ 0
-      → Final (Seen Keeps n v) ws slots → get_elem? ws 0 ≡ some drawn_ → get_elem? ws 8 ≡ some taken_
+      → Final (Seen Keeps n v) ws slots → get_elem? ws 0 ≡ some drawn_ → get_elem? ws 16 ≡ some taken_
       → (left : List T) × IsWhole v.ends left × Stand slots taken_ left
       × (taken_ + length left ≡ drawn_ % 9223372036854775808) × (taken_ + length left ≤ length slots)
       × (v.over ≡ true → left ≡ [])
@@ -104,8 +104,8 @@ module _ {T : Type 0} where
       let at = seen.1 in
       let d : drawn_ ≡ drawn k.history + 9223372036854775808 * k.cut
       = sym (index_at ws 0 drawn_ at_drawn) ∙ (ap (λ l. slice_index l 0) (sym words) ∙ at0 s k) in
-      let t : taken_ ≡ taken k.history = sym (index_at ws 8 taken_ at_taken)
-      ∙ (ap (λ l. slice_index l 8) (sym words) ∙ at1 s k) in
+      let t : taken_ ≡ taken k.history = sym (index_at ws 16 taken_ at_taken)
+      ∙ (ap (λ l. slice_index l 16) (sym words) ∙ at1 s k) in
       let l = values_length k.history.rest in
       let in_ = k.within in let small = k.small in let sized = k.sized in (
         values k.history.rest,

@@ -4,7 +4,7 @@ use Rattle.mb_segment.proofs.Base.{replicate, set_else, set_here, slice_set, som
 use Rattle.mb_segment.proofs.Base.{sym, true, zero, ℕ, ℕ_discrete, ◌+◌, ◌-◌, ◌<◌, ◌∙◌, ◌∷◌, ◌≡◌, ◌⊎◌}
 use Rattle.mb_segment.specs.Vocabulary.{Account, Duty, Fits, Half, HasHalf, History, In, Issuer, Match, MaySend, MayTake, Member, Nothing}
 use Rattle.mb_segment.specs.Vocabulary.{Reads, Role, Spent, Spot, View, Writes, cuts_by, drawn, free, got_by, has_cut, if_hub, is_of}
-use Rattle.mb_segment.specs.Vocabulary.{listed, no_duty, one_if_member, or, owed, sent_by}
+use Rattle.mb_segment.specs.Vocabulary.{listed, no_duty, one_if_member, or, owed, sent_by, taken}
 use Rattle.mb_segment.proofs.Totals.{there}
 
 pub free_open : (cut undrawn : ℕ) → cut ≡ 0 → free cut undrawn ≡ undrawn
@@ -93,8 +93,9 @@ module _ {T : Type 0} where
   -- a pass of an open segment with a free position was told nothing that rules a draw out
   pub may_send : (h : History T) (states : List ℕ) (cut hub : ℕ) (roll : List ℕ) (n : ℕ) (v : View T)
       → Fits h states cut hub roll n v → v.role ≡ Member → cut ≡ cuts_by h.cutter → cut ≡ 0
-      → drawn h < length states → MaySend v
-  may_send h states cut hub roll n v f role is open_ room = (
+      → drawn h < length states → (p : ℕ) → p ≡ drawn h → MaySend p v
+  may_send h states cut hub roll n v f role is open_ room p at = (
+    let a = f.heard.0 in omega arith,
     not_true v.sight.full (λ on. let y = f.full on in absurd (omega arith)),
     not_true v.sight.cut (λ on. let y = f.cut_ on in absurd (omega arith)),
     (f.member role).cut ∙ uncut h.cutter n (sym is ∙ open_),
@@ -104,9 +105,11 @@ module _ {T : Type 0} where
 
   -- where a value waits, nobody was told that none can come
   pub may_take : (h : History T) (states : List ℕ) (cut hub : ℕ) (roll : List ℕ) (n : ℕ) (v : View T)
-      → Fits h states cut hub roll n v → 0 < length h.rest → MayTake v
-  may_take h states cut hub roll n v f some_ = not_true v.over
-      (λ on. let y : length h.rest ≡ 0 = ap length (f.over on).1 in absurd (omega arith))
+      → Fits h states cut hub roll n v → 0 < length h.rest → (p : ℕ) → p ≡ taken h → MayTake p v
+  may_take h states cut hub roll n v f some_ p at = (
+    let b = f.heard.1 in omega arith,
+    not_true v.over (λ on. let y : length h.rest ≡ 0 = ap length (f.over on).1 in absurd (omega arith)),
+  )
 
   -- who owes something, or is in the list, is a pass that is out
   pub is_out : (v : View T) → ((v.role ≡ Member → ⊥) → v.duty ≡ no_duty) → 0 < owed v + listed v → v.role ≡ Member
@@ -131,3 +134,20 @@ module _ {T : Type 0} where
   match_kept h g (j ∷ js) [] all m = absurd m
   match_kept h g (j ∷ js) (a ∷ more) all m = let o = all j (inl refl) in
       (m.0 ∙ sym o.0, m.1 ∙ sym o.1, m.2 ∙ sym o.2, match_kept h g js more (λ i in_. all i (inr in_)) m.3)
+
+  -- who has begun something still has, where the step's view keeps it
+  pub half_stays : (views : List (View T)) (n : ℕ) (v w : View T) → get_elem? views n ≡ some v → w.half ≡ v.half
+      → (j : ℕ) (half : Half T)
+      → HasHalf views j half → HasHalf (slice_set views n w) j half
+  half_stays views n v w at e j half has = go (ℕ_discrete j n)
+    where
+      go : Dec (j ≡ n) → HasHalf (slice_set views n w) j half
+      go (yes q) =
+          let v_is : v ≡ has.0 = some-injective v has.0
+          (sym at ∙ subst (λ (i : ℕ). get_elem? views i ≡ some has.0) q has.1) in (
+            w,
+            subst (λ (i : ℕ). get_elem? (slice_set views n w) i ≡ some w) (sym q)
+                (set_here views n w (there views n v at)),
+            e ∙ (ap (λ (u : View T). u.half) v_is ∙ has.2),
+          )
+      go (no ne) = (has.0, set_else views n j w ne ∙ has.1, has.2)

@@ -1,14 +1,16 @@
 -- What a step has to show, so that the rule holds after it.
 use Rattle.mb_segment.proofs.Base.{Act, Allows, List, Option, Some, State, Valid, [], ap, arith, at_set}
 use Rattle.mb_segment.proofs.Base.{carried_after, either, exchanged, false, get_elem?, inl, inr, keeps, length, refl}
-use Rattle.mb_segment.proofs.Base.{set_again, set_else, set_here, slice_index, slice_set, some}
-use Rattle.mb_segment.proofs.Base.{some-injective, stepped, subst, sym, true, ℕ, ℕ_discrete, ⊎_elim, ◌*◌, ◌+◌}
+use Rattle.mb_segment.proofs.Base.{set_again, slice_index, slice_set, some}
+use Rattle.mb_segment.proofs.Base.{stepped, subst, sym, true, ℕ, ⊎_elim, ◌*◌, ◌+◌}
 use Rattle.mb_segment.proofs.Base.{◌-◌, ◌<◌, ◌==◌, ◌∙◌, ◌∷◌, ◌≡◌, ◌≢◌, ◌≤◌}
-use Rattle.mb_segment.specs.Vocabulary.{Account, AllHeed, Duty, Fits, Half, HalfFits, HasHalf, History, Homes, Keeps, Known}
+use Rattle.mb_segment.specs.Vocabulary.{Account, AllHeed, Duty, Event, Fits, HasLooked, blind, Half, HalfFits, History, Homes, IsAware, Keeps, Known}
 use Rattle.mb_segment.specs.Vocabulary.{Match, Member, Quiet, Reads, Sat, Shut, Sight, Taken, Undrawn, View, Waiting}
 use Rattle.mb_segment.specs.Vocabulary.{Writes, closing, cuts_by, drawn, free, got_by, has_cut, if_hub, listed, member, no_duty}
 use Rattle.mb_segment.specs.Vocabulary.{Tokens, one_if_member, out, owed, row, sent_by, sleeping, spot, taken, tokens_given, tokens_taken, total}
 use Rattle.mb_segment.proofs.Totals.{asleep_listed, length_set, there, total_set}
+use Rattle.mb_segment.proofs.Halves.{half_stays}
+use Rattle.mb_segment.proofs.Walks.{SameLooks, Walks, unmoved}
 use lib.Seq.{set-get_or}
 
 abbrev pub St : Type 0 → Type 0
@@ -23,6 +25,7 @@ pub record Next (T : Type 0) : Type 0 where
   pub tokens : ℕ
   pub waiting : ℕ
   pub cut : ℕ
+  pub walk : List Event
 
 abbrev pub free_in : {T : Type 0} → History T → List ℕ → ℕ → ℕ
 free_in h states cut = free cut (length states - drawn h)
@@ -42,6 +45,7 @@ module _ {T : Type 0} where
     waiting
         = k.waiting;
     cut = k.cut;
+    walk = k.walk;
   }
 
   abbrev pub after : St T → Next T → ℕ → View T → St T
@@ -83,6 +87,7 @@ module _ {T : Type 0} where
     pub halves : (j : ℕ) (half : Half T) → j ≢ n → HalfFits k.history k.states j half
         → HalfFits x.history x.states j half
     pub own : Fits x.history x.states x.cut k.hub k.roll n w
+    pub walk : Walks k.walk x.walk x.history (length x.states) n w
     pub laws : Laws s k v w x
 
   -- the view of another pass still fits
@@ -109,7 +114,7 @@ module _ {T : Type 0} where
     cut_ = λ e. let r = f.cut_ e in let m = o.cut_ in omega arith;
     empty = let l = f.empty in let m = o.more in omega arith;
     heard = let a = f.heard.0 in let b = f.heard.1 in let d = o.drawn_ in let m = o.more in
-        (omega arith, omega arith, f.heard.2);
+        (omega arith, omega arith, f.heard.2, f.heard.3);
     over = λ e. let r = f.over e in o.over r.0 r.1;
   }
 
@@ -148,6 +153,14 @@ module _ {T : Type 0} where
         small = omega arith;
         within = o.within;
         cutter = o.cutter;
+        walk = x.walk;
+        walked = o.walk.walked;
+        true_ = o.walk.true_;
+        looked = λ j u e r. ⊎_elim
+            (λ (t : (j ≡ n) × (w ≡ u)). subst (λ (y : ℕ × View T). HasLooked x.walk y.0 y.1.sight)
+            (λ i. (sym t.0 i, t.1 i)) (o.walk.own (ap (λ (y : View T). y.role) t.1 ∙ r)))
+            (λ (t : (j ≢ n) × (get_elem? s.views j ≡ some u)). o.walk.others j u.sight t.0 (k.looked j u t.1 r))
+            (at_set s.views n j w u e);
         undrawn = o.undrawn;
         waits = o.waits;
         taken_ = o.taken_;
@@ -168,8 +181,12 @@ module _ {T : Type 0} where
             let e = k.out_ in omega arith;
         newborn = λ j long. (
             let apart : j ≢ n = λ q. omega arith in
-            let nb = k.newborn j (omega arith) in
-            ((o.same j apart).0 ∙ nb.0, (o.same j apart).1 ∙ nb.1, (o.same j apart).2 ∙ nb.2)
+            let nb = k.newborn j (omega arith) in (
+              (o.same j apart).0 ∙ nb.0,
+              (o.same j apart).1 ∙ nb.1,
+              (o.same j apart).2 ∙ nb.2,
+              sym (o.walk.others j blind apart (sym nb.3, λ some_. absurd (omega arith))).0,
+            )
             );
         fits = λ j u e. ⊎_elim
             (λ (t : (j ≡ n) × (w ≡ u)). subst (λ (y : ℕ × View T). Fits x.history x.states x.cut k.hub k.roll y.0
@@ -180,23 +197,6 @@ module _ {T : Type 0} where
       }
 
   -- ---- steps that draw, claim, mark and read nothing
-  -- who has begun something still has, where the step's view keeps it
-  pub half_stays : (views : List (View T)) (n : ℕ) (v w : View T) → get_elem? views n ≡ some v → w.half ≡ v.half
-      → (j : ℕ) (half : Half T)
-      → HasHalf views j half → HasHalf (slice_set views n w) j half
-  half_stays views n v w at e j half has = go (ℕ_discrete j n)
-    where
-      go : Dec (j ≡ n) → HasHalf (slice_set views n w) j half
-      go (yes q) =
-          let v_is : v ≡ has.0 = some-injective v has.0
-          (sym at ∙ subst (λ (i : ℕ). get_elem? views i ≡ some has.0) q has.1) in (
-            w,
-            subst (λ (i : ℕ). get_elem? (slice_set views n w) i ≡ some w) (sym q)
-                (set_here views n w (there views n v at)),
-            e ∙ (ap (λ (u : View T). u.half) v_is ∙ has.2),
-          )
-      go (no ne) = (has.0, set_else views n j w ne ∙ has.1, has.2)
-
   pub waits_stay : (s : St T) (k : Keeps s) (n : ℕ) (v w : View T) → get_elem? s.views n ≡ some v
       → w.half ≡ v.half
       → Waiting k.history (slice_set s.views n w) k.states s.homes
@@ -207,9 +207,10 @@ module _ {T : Type 0} where
   pub taken_stay : (s : St T) (k : Keeps s) (n : ℕ) (v w : View T) → get_elem? s.views n ≡ some v
       → w.half ≡ v.half
       → Taken k.history (slice_set s.views n w) k.states s.homes
-  taken_stay s k n v w at e i c c_at = ⊎_elim
-      (λ z. inl (z.0, half_stays s.views n v w at e c.to (Reads (spot i c.entry.value)) z.1)) (λ z. inr z)
-      (k.taken_ i c c_at)
+  taken_stay s k n v w at e i c c_at = let t = k.taken_ i c c_at in (
+    t.0,
+    ⊎_elim (λ z. inl (half_stays s.views n v w at e c.to (Reads (spot i c.entry.value)) z)) (λ z. inr z) t.1,
+  )
 
   -- the same words of positions, and the same slots
   abbrev pub still : (s : St T) → Keeps s → Next T → Next T
@@ -226,6 +227,7 @@ module _ {T : Type 0} where
     pub out_ : w.out ≡ v.out
     pub half : w.half ≡ v.half
     pub own : Fits k.history k.states k.cut k.hub k.roll n w
+    pub walk : Walks k.walk x.walk k.history (length k.states) n w
     pub laws : Laws s k v w (still s k x)
 
   pub steady : (s : St T) (k : Keeps s) (n : ℕ) (v w : View T) (x : Next T) → get_elem? s.views n ≡ some v
@@ -256,16 +258,18 @@ module _ {T : Type 0} where
         roll = λ as_ m. m;
         halves = λ j half ne f. f;
         own = o.own;
+        walk = o.walk;
         laws = o.laws;
       }
 
   -- the same where no word changes
   pub settled : (s : St T) (k : Keeps s) (n : ℕ) (v w : View T) → get_elem? s.views n ≡ some v → listed w
       ≡ listed v → w.role ≡ v.role
-      → w.out ≡ v.out → w.half ≡ v.half → w.tokens ≡ v.tokens → Fits k.history k.states k.cut k.hub k.roll n w
+      → w.out ≡ v.out → w.half ≡ v.half → w.tokens ≡ v.tokens → SameLooks v.sight w.sight
+      → Fits k.history k.states k.cut k.hub k.roll n w
       → Laws s k v w (now s k)
       → Keeps record { words = s.words; homes = s.homes; views = slice_set s.views n w }
-  settled s k n v w at li ro ou ha to own laws = steady s k n v w (now s k) at record {
+  settled s k n v w at li ro ou ha to si own laws = steady s k n v w (now s k) at record {
     words = k.words;
     narrow = k.narrow;
     counted = omega arith;
@@ -275,6 +279,7 @@ module _ {T : Type 0} where
     out_ = ou;
     half = ha;
     own = own;
+    walk = unmoved s k n v w at ro si;
     laws = laws;
   }
 
@@ -314,7 +319,8 @@ module _ {T : Type 0} where
     heard = (
       subst (λ (x : Known). x.drawn ≤ drawn h) (sym p.6) f.heard.0,
       subst (λ (x : Known). x.taken ≤ taken h) (sym p.6) f.heard.1,
-      subst (λ (l : List (Account T)). AllHeed l) (λ i. sym p.1 i ∷ sym p.5 i) f.heard.2,
+      subst (λ (y : Known × Account T). IsAware y.0 y.1) (λ i. (sym p.6 i, sym p.1 i)) f.heard.2,
+      subst (λ (l : List (Account T)). AllHeed l) (λ i. sym p.1 i ∷ sym p.5 i) f.heard.3,
     );
     over = λ e. f.over (sym p.4 ∙ e);
   }
@@ -386,8 +392,8 @@ module _ {T : Type 0} where
   pub at0 : (s : St T) (k : Keeps s) → slice_index s.words 0 ≡ drawn k.history + 9223372036854775808 * k.cut
   at0 s k = ap (λ l. slice_index l 0) k.words
 
-  pub at1 : (s : St T) (k : Keeps s) → slice_index s.words 8 ≡ taken k.history
-  at1 s k = ap (λ l. slice_index l 8) k.words
+  pub at1 : (s : St T) (k : Keeps s) → slice_index s.words 16 ≡ taken k.history
+  at1 s k = ap (λ l. slice_index l 16) k.words
 
-  pub at2 : (s : St T) (k : Keeps s) → slice_index s.words 1 ≡ k.tokens + 4294967296 * k.waiting
-  at2 s k = ap (λ l. slice_index l 1) k.words
+  pub at2 : (s : St T) (k : Keeps s) → slice_index s.words 8 ≡ k.tokens + 4294967296 * k.waiting
+  at2 s k = ap (λ l. slice_index l 8) k.words

@@ -1,14 +1,16 @@
 -- The looks of a receiver keep the rule: at the number claimed, then at the number drawn.
 use Rattle.mb_segment.proofs.Base.{Allows, List, None, Option, Some, [], ap, arith, dec_le, dec_lt, dite, get_elem?, inl, inr, keeps, length}
 use Rattle.mb_segment.proofs.Base.{none, refl, slice_index, some, step, subst, suc, sym, zero, ℕ, ⊎_elim, ◌%◌, ◌*◌}
-use Rattle.mb_segment.proofs.Base.{◌+◌, ◌-◌, ◌<◌, ◌≡◌, ◌≤◌}
-use Rattle.mb_segment.specs.Vocabulary.{Below, Duty, Fits, Issuer, Keeps, Member, Role, SawAllTaken, Sat, Spent}
+use Rattle.mb_segment.proofs.Base.{◌+◌, ◌-◌, ◌<◌, ◌∷◌, ◌≡◌, ◌≤◌}
+use Rattle.mb_segment.specs.Vocabulary.{Below, Duty, Fits, FoundEmpty, Issuer, Keeps, Member, Role, SawAllTaken, Sat, Spent}
 use Rattle.mb_segment.specs.Vocabulary.{Spot, View, all_entries}
 use Rattle.mb_segment.specs.Vocabulary.{done, drawn, falls_asleep}
 use Rattle.mb_segment.specs.Vocabulary.{free, listed, looked, no_duty, looking, mark_in, seeing_taken, sees_empty, sees_taken, told, with_duty}
 use Rattle.mb_segment.proofs.Spots.{all_length, below_by, nothing_left}
 use Rattle.mb_segment.proofs.Halves.{free_open}
-use Rattle.mb_segment.proofs.Kept.{Goes, Plain, St, StaysIdle, at0, at1, at_rest, loaded, refit, settled, sighted, stays}
+use Rattle.mb_segment.proofs.Kept.{Goes, Plain, St, StaysIdle, at0, at1, at_rest, loaded, now, refit, settled, sighted}
+use Rattle.mb_segment.proofs.Kept.{stays, steady}
+use Rattle.mb_segment.proofs.Walks.{a_look}
 
 -- a view that differs in what it owes alone
 pub plain : {T : Type 0} (f : Duty → Duty) (v : View T) → StaysIdle v (f v.duty) → Plain v (with_duty f v)
@@ -42,15 +44,16 @@ mark_below (Some j) r all = let l = all j refl in omega arith
 
 module _ {T : Type 0} where
   pub sees_taken_at : (slots n : ℕ) (me : Sat T)
-      → Allows Keeps slots n me 8 (λ r. r) (seeing_taken (step slots 8 0 0 none) me)
+      → Allows Keeps slots n me 16 (λ r. r) (seeing_taken (step slots 16 0 0 none) me)
   sees_taken_at slots n me s k homes at small =
       let now_ = at1 s k in
-      let r = slice_index s.words 8 in
+      let r = slice_index s.words 16 in
       let fit = k.fits n me.0 at in (
         sees_taken r me.0,
         keeps,
         tt,
-        loaded s 8 n me.1 (sees_taken r me.0) (settled s k n me.0 (sees_taken r me.0) at refl refl refl refl refl
+        loaded s 16 n me.1 (sees_taken r me.0) (settled s k n me.0 (sees_taken r me.0) at refl refl refl refl refl
+            (refl, refl, refl)
             (sighted k.history k.states k.cut k.hub k.roll n me.0 record me.0.sight { low = r } fit
             (omega arith) fit.ripe fit.full fit.cut_ fit.empty)
             (at_rest s k me.0 (sees_taken r me.0) refl)),
@@ -58,7 +61,7 @@ module _ {T : Type 0} where
       )
 
   -- nothing waits where no more are drawn than were claimed before
-  nothing_waits : (s : St T) (k : Keeps s) (n : ℕ) (v : View T) → get_elem? s.views n ≡ some v
+  pub nothing_waits : (s : St T) (k : Keeps s) (n : ℕ) (v : View T) → get_elem? s.views n ≡ some v
       → slice_index s.words 0 % 9223372036854775808 ≤ v.sight.low → k.history.rest ≡ []
   nothing_waits s k n v at le =
       let now_ = at0 s k in let many = k.sized in let small = k.small in let in_ = k.within in
@@ -67,7 +70,7 @@ module _ {T : Type 0} where
 
   -- where all that are drawn are below r, those are that the pass drew or saw marked
   all_below : (s : St T) (k : Keeps s) (n : ℕ) (v : View T) → get_elem? s.views n ≡ some v → (r : ℕ)
-      → drawn k.history ≤ r → SawAllTaken (sees_empty r v)
+      → drawn k.history ≤ r → SawAllTaken (sees_empty r k.walk v)
   all_below s k n v at r le = (
     sent (k.fits n v at) le v.role refl,
     λ p e. let t = (k.fits n v at).ripe p e in
@@ -99,7 +102,8 @@ module _ {T : Type 0} where
     ),
   )
   looks_at f g slots n me lf lg sleeps s k homes at (yes none_) (yes open_) =
-      let w = sees_empty (slice_index s.words 0) (with_duty f me.0) in
+      let r = slice_index s.words 0 in
+      let w = sees_empty r k.walk (with_duty f me.0) in
       let now_ = at0 s k in let many = k.sized in let small = k.small in let in_ = k.within in
       let empty = nothing_waits s k n me.0 at none_ in
       let zero_ : length k.history.rest ≡ 0 = ap length empty in
@@ -110,15 +114,24 @@ module _ {T : Type 0} where
         w,
         keeps,
         tt,
-        loaded s 0 n me.1 w (settled s k n me.0 w at (omega arith) refl refl refl refl
-            (sighted k.history k.states k.cut k.hub k.roll n (with_duty f me.0)
-            record me.0.sight { empty = slice_index s.words 0; found = me.0.sight.found + 1 }
-            (refit k.history k.states k.cut k.hub k.roll n me.0 (with_duty f me.0) (plain f me.0 lf.2) fit)
-            fit.low fit.ripe fit.full fit.cut_ (omega arith))
-            (λ L O C L' O' C' l o c le q h. (inr (omega arith), inr (omega arith)))),
+        loaded s 0 n me.1 w (steady s k n me.0 w record (now s k) { walk = FoundEmpty n ∷ k.walk } at record {
+          words = k.words;
+          narrow = k.narrow;
+          counted = omega arith;
+          given = omega arith;
+          role = refl;
+          out_ = refl;
+          half = refl;
+          own = sighted k.history k.states k.cut k.hub k.roll n (with_duty f me.0) w.sight
+              (refit k.history k.states k.cut k.hub k.roll n me.0 (with_duty f me.0) (plain f me.0 lf.2) fit)
+              fit.low fit.ripe fit.full fit.cut_ (omega arith);
+          walk = a_look k.walk k.history (length k.states) n (with_duty f me.0) (k.looked n me.0 at) k.walked k.true_
+              zero_ r (omega arith);
+          laws = λ L O C L' O' C' l o c le q h. (inr (omega arith), inr (omega arith));
+        }),
         (
           (λ lt. absurd (omega arith)),
-          (λ _ _. ((refl, refl), all_below s k n me.0 at (slice_index s.words 0) (omega arith))),
+          (λ _ _. (k.walk, (refl, refl), all_below s k n me.0 at r (omega arith))),
           λ _ le. absurd (omega arith),
         ),
       )
@@ -135,7 +148,7 @@ module _ {T : Type 0} where
         w,
         keeps,
         tt,
-        loaded s 0 n me.1 w (settled s k n me.0 w at (omega arith) refl refl refl refl
+        loaded s 0 n me.1 w (settled s k n me.0 w at (omega arith) refl refl refl refl (refl, refl, refl)
             record {
               member = λ r. let m = fit.member r in record
                   { sent = m.sent; got = m.got; cut = m.cut; no_hub = m.no_hub; not_back = m.not_back };

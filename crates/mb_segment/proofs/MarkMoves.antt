@@ -3,12 +3,13 @@ use Rattle.mb_segment.proofs.Base.{Allows, List, Option, Some, ap, arith, get_el
 use Rattle.mb_segment.proofs.Base.{inr, keeps, length, none, refl, rest, set_else, set_here, slice_index}
 use Rattle.mb_segment.proofs.Base.{slice_set, some, some-injective, step, subst, suc, sym, ℕ, ℕ_discrete}
 use Rattle.mb_segment.proofs.Base.{⊎_elim, ◌+◌, ◌-◌, ◌<◌, ◌∙◌, ◌∷◌, ◌≡◌, ◌≢◌, ◌≤◌}
-use Rattle.mb_segment.specs.Vocabulary.{Claim, Entry, Half, HalfFits, Homes, Keeps, Member, Nothing, Reads}
+use Rattle.mb_segment.specs.Vocabulary.{AreTrue, Claim, Entry, Half, HalfFits, Homes, Keeps, Member, Nothing, Reads}
 use Rattle.mb_segment.specs.Vocabulary.{Sat, Spot, Taken, Undrawn, View, Waiting, Waits, Writes, all_entries}
 use Rattle.mb_segment.specs.Vocabulary.{drawn, ended, ending, free, seeing_mark, sees_mark}
 use Rattle.mb_segment.specs.Vocabulary.{spot}
-use Rattle.mb_segment.proofs.Spots.{all_length, below_length, index_at, not_zero, same_some, size_set}
+use Rattle.mb_segment.proofs.Spots.{all_length, below_length, index_at, not_zero, same_some, size_set, state_word}
 use Rattle.mb_segment.proofs.Halves.{half_else, no_hub, no_spent, not_both, writes_one}
+use Rattle.mb_segment.proofs.Walks.{looked_still, silent}
 use Rattle.mb_segment.proofs.Kept.{Goes, Next, St, at_rest, loaded, moved, settled, sighted, stays}
 
 -- ---- a mark
@@ -68,15 +69,13 @@ module _ {T : Type 0} (s : St T) (k : Keeps s) (n : ℕ) (v w : View T) (at : ge
       let b = below_length k.history.claims j c c_at in
       let le = writes.0 in
       let ne : j ≢ p.at = λ q. omega arith in
-      ⊎_elim
-      (λ z. inl (
-        set_else k.states p.at j 1 ne ∙ z.0,
-        half_else s.views n v w at c.to
-            (Reads (spot j c.entry.value))
-            (λ same_. not_both v.half p (spot j c.entry.value) half same_) z.1,
-      ))
-      (λ z. inr (set_else k.states p.at j 1 ne ∙ z.0, set_else s.homes p.at j (some (Some p.value)) ne ∙ z.1))
-      (k.taken_ j c c_at)
+      let t = k.taken_ j c c_at in (
+        set_else k.states p.at j 1 ne ∙ t.0,
+        ⊎_elim
+            (λ z. inl (half_else s.views n v w at c.to (Reads (spot j c.entry.value))
+            (λ same_. not_both v.half p (spot j c.entry.value) half same_) z))
+            (λ z. inr (set_else s.homes p.at j (some (Some p.value)) ne ∙ z)) t.1,
+      )
 
   -- what another has begun is at another position
   mark_halves : (j : ℕ) (x : Half T) → j ≢ n → HalfFits k.history k.states j x → HalfFits k.history mark_states j x
@@ -103,7 +102,7 @@ module _ {T : Type 0} (s : St T) (k : Keeps s) (n : ℕ) (v w : View T) (at : ge
       go (no apart) = λ z. ne (sym (set_else k.states p.at j 1 apart) ∙ z)
 
 module _ {T : Type 0} where
-  pub marks : (slots n : ℕ) (me : Sat T) (i : ℕ) (p : Spot T) → i ≡ p.at + 9 → me.0.role ≡ Member → me.0.half
+  pub marks : (slots n : ℕ) (me : Sat T) (i : ℕ) (p : Spot T) → i ≡ p.at + 17 → me.0.role ≡ Member → me.0.half
       ≡ Writes p
       → me.1 ≡ (p.at, Some p.value) ∷ rest me.1
       → Allows Keeps slots n me i (λ _. 1) (λ _. ending (step slots i 1 0 none) me 1)
@@ -111,7 +110,7 @@ module _ {T : Type 0} where
       let v = me.0 in
       let w = ended v in
       let fit = k.fits n v at in
-      let ii : i ≡ suc (suc (suc (suc (suc (suc (suc (suc (suc p.at)))))))) = omega arith in
+      let ii : i ≡ state_word p.at = omega arith in
       let given : homes_after s.homes me.1 gives ≡ slice_set s.homes p.at (some (Some p.value))
       = ap (λ (c : List (ℕ × Option T)). homes_after s.homes c gives) held in
       let many₀ = size_set k.states p.at 1 in
@@ -126,6 +125,7 @@ module _ {T : Type 0} where
         tokens = k.tokens;
         waiting = k.waiting;
         cut = k.cut;
+        walk = k.walk;
       } in (
         w,
         gives,
@@ -178,6 +178,9 @@ module _ {T : Type 0} where
                   f.1,
                 );
               };
+              walk = silent k.walk k.history (length (slice_set k.states p.at 1)) n w
+                  (looked_still s k n v w at refl (refl, refl, refl)) k.walked
+                  (subst (λ (m : ℕ). AreTrue m k.walk) (sym many₀) k.true_);
               laws = λ L O C L' O' C' l o c le q h. (
                 ⊎_elim (λ y. inl (omega arith)) (λ y. inr (omega arith)) q,
                 ⊎_elim (λ y. inl (omega arith)) (λ y. inr
@@ -191,7 +194,7 @@ module _ {T : Type 0} where
 
 -- ---- a look at a mark
 module _ {T : Type 0} where
-  sees_at : (slots n : ℕ) (me : Sat T) (i p : ℕ) → i ≡ p + 9 → p < slots → p ≤ me.0.sight.low → (s : St T)
+  sees_at : (slots n : ℕ) (me : Sat T) (i p : ℕ) → i ≡ p + 17 → p < slots → p ≤ me.0.sight.low → (s : St T)
       (k : Keeps s)
       → length s.homes ≡ slots
       → get_elem? s.views n ≡ some me.0 → Dec (slice_index s.words i ≡ 0)
@@ -201,12 +204,13 @@ module _ {T : Type 0} where
   sees_at slots n me i p is room low s k homes at (no some_) =
       let many = k.sized in
       let fit = k.fits n me.0 at in
-      let ii : i ≡ suc (suc (suc (suc (suc (suc (suc (suc (suc p)))))))) = omega arith in
+      let ii : i ≡ state_word p = omega arith in
       let same_ : slice_index s.words i ≡ slice_index k.states p = λ r. slice_index (k.words r) (ii r) in (
         sees_mark p me.0,
         keeps,
         tt,
         loaded s i n me.1 (sees_mark p me.0) (settled s k n me.0 (sees_mark p me.0) at refl refl refl refl refl
+            (refl, refl, refl)
             (sighted k.history k.states k.cut k.hub k.roll n me.0 record me.0.sight { ripe = Some p } fit fit.low
             (λ j e. let q : p ≡ j = same_some p j e in (
               omega arith,
@@ -219,7 +223,7 @@ module _ {T : Type 0} where
         ((λ _. (refl, refl)), λ e. absurd (some_ e)),
       )
 
-  pub sees_marks : (slots n : ℕ) (me : Sat T) (i p : ℕ) → i ≡ p + 9 → p < slots → p ≤ me.0.sight.low
+  pub sees_marks : (slots n : ℕ) (me : Sat T) (i p : ℕ) → i ≡ p + 17 → p < slots → p ≤ me.0.sight.low
       → Allows Keeps slots n me i (λ r. r) (seeing_mark p (step slots i 0 0 none) me)
   sees_marks slots n me i p is room low s k homes at small =
       sees_at slots n me i p is room low s k homes at (ℕ_discrete (slice_index s.words i) 0)

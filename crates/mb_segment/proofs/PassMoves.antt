@@ -3,16 +3,16 @@ use Rattle.mb_segment.proofs.Base.{Joins, List, None, Splits, [], ap, arith, at_
 use Rattle.mb_segment.proofs.Base.{inl, inr, length, opening, refl, replicate, slice_set, some}
 use Rattle.mb_segment.proofs.Base.{some-injective, some-ne-none, subst, suc, sym, true≢false, zero, ℕ, ⊎_elim}
 use Rattle.mb_segment.proofs.Base.{◌++◌, ◌+◌, ◌-◌, ◌<◌, ◌∙◌, ◌∷◌, ◌≡◌, ◌≢◌}
-use Rattle.mb_segment.specs.Vocabulary.{Duty, Fits, Half, HasHalf, History, In, IsMember, Issuer, Keeps}
+use Rattle.mb_segment.specs.Vocabulary.{Duty, Fits, Half, HasHalf, HasLooked, History, In, IsMember, Issuer, Keeps}
 use Rattle.mb_segment.specs.Vocabulary.{Match, Member, Nothing, Reads, Role, Spent, View, Writes, blank}
 use Rattle.mb_segment.specs.Vocabulary.{closing, if_hub, issued, listed, member, new_hub, no_duty}
 use Rattle.mb_segment.specs.Vocabulary.{one_if_member, out, owed, row, sleeping, spent, spot, tokens_given, tokens_taken, took_back, total}
 use Rattle.mb_segment.proofs.Totals.{below_total, length_set, length_snoc, one_in_total, snoc_cases, there}
 use Rattle.mb_segment.proofs.Totals.{total_set, total_snoc}
 use Rattle.mb_segment.proofs.Spots.{map_length, no_some, replicate_at, replicate_length}
-use Rattle.mb_segment.proofs.Halves.{either_over, empty_slots, hub_is_no_member, hub_is_not_spent, no_hub}
+use Rattle.mb_segment.proofs.Halves.{either_over, empty_slots, half_stays, hub_is_no_member, hub_is_not_spent, no_hub}
 use Rattle.mb_segment.proofs.Halves.{spent_is_no_member}
-use Rattle.mb_segment.proofs.Kept.{St, half_stays, refit}
+use Rattle.mb_segment.proofs.Kept.{St, refit}
 use Rattle.atomic_table.proofs.Lists.{at_map}
 
 module _ {T : Type 0} where
@@ -38,7 +38,7 @@ module _ {T : Type 0} where
     full = λ e. absurd (true≢false (sym e));
     cut_ = λ e. absurd (true≢false (sym e));
     empty = omega arith;
-    heard = (omega arith, omega arith, (tt, tt, tt));
+    heard = (omega arith, omega arith, (tt, tt, tt), (tt, tt, tt));
     over = λ e. absurd (true≢false (sym e));
   }
 
@@ -68,6 +68,10 @@ module _ {T : Type 0} where
         small = omega arith;
         within = omega arith;
         cutter = refl;
+        walk = [];
+        walked = (refl, refl);
+        true_ = tt;
+        looked = λ n v at r. absurd (hub_is_no_member (ap (λ (y : View T). y.role) (first_is n v at).1 ∙ r));
         undrawn = λ k le lt. (
           replicate_at count 0 k (omega arith),
           at_map some (empty_slots T count) k None (replicate_at count None k (omega arith)),
@@ -85,7 +89,7 @@ module _ {T : Type 0} where
         rolled = λ n in_. absurd in_;
         known = omega arith;
         out_ = refl;
-        newborn = λ n l. (refl, refl, refl);
+        newborn = λ n l. (refl, refl, refl, refl);
         fits = λ n v at. let f = first_is n v at in
             subst (λ (y : ℕ × View T). Fits unused (replicate count 0) 0 0 [] y.0 y.1)
             (λ i. (f.0 i, f.1 i))
@@ -129,6 +133,19 @@ module _ {T : Type 0} where
         small = k.small;
         within = k.within;
         cutter = k.cutter;
+        walk = k.walk;
+        walked = k.walked;
+        true_ = k.true_;
+        looked = λ j u e r. ⊎_elim
+            (λ there_. ⊎_elim
+            (λ (t : (j ≡ n) × (w ≡ u)). absurd (no_hub u.role r (ap (λ (y : View T). y.role) (sym t.1) ∙ role)))
+            (λ (t : (j ≢ n) × (get_elem? s.views j ≡ some u)). k.looked j u t.1 r)
+            (at_set s.views n j w u there_))
+            (λ (t : (j ≡ length one) × (blank ≡ u)).
+            let l = t.0 in
+            subst (λ (y : View T). HasLooked k.walk j y.sight) t.1
+            (sym (k.newborn j (omega arith)).3, λ some_. absurd (omega arith)))
+            (snoc_cases one blank u j e);
         undrawn = k.undrawn;
         waits = λ i e le e_at. ⊎_elim
             (λ z. inl (
@@ -137,13 +154,13 @@ module _ {T : Type 0} where
                   (half_stays s.views n v w at refl e.by (Writes (spot i e.value)) z.1),
             ))
             (λ z. inr z) (k.waits i e le e_at);
-        taken_ = λ i c c_at. ⊎_elim
-            (λ z. inl (
-              z.0,
-              then_longer one blank c.to (Reads (spot i c.entry.value))
-                  (half_stays s.views n v w at refl c.to (Reads (spot i c.entry.value)) z.1),
-            ))
-            (λ z. inr z) (k.taken_ i c c_at);
+        taken_ = λ i c c_at. let t = k.taken_ i c c_at in (
+          t.0,
+          ⊎_elim
+              (λ z. inl (then_longer one blank c.to (Reads (spot i c.entry.value))
+              (half_stays s.views n v w at refl c.to (Reads (spot i c.entry.value)) z)))
+              (λ z. inr z) t.1,
+        );
         counted = omega arith;
         given = omega arith;
         quiet = ⊎_elim (λ x. inl (omega arith)) (λ x. inr (omega arith)) k.quiet;
@@ -255,7 +272,7 @@ module _ {T : Type 0} where
           cut_ = λ on. ⊎_elim f.cut_ (k.fits other w was_other).cut_ (either_over v.sight.cut w.sight.cut on);
           empty = f.empty;
           heard = let g = (k.fits other w was_other).heard in
-              (f.heard.0, f.heard.1, (f.heard.2.0, f.heard.2.1, (g.2.0, g.2.1, f.heard.2.2)));
+              (f.heard.0, f.heard.1, f.heard.2, (f.heard.3.0, f.heard.3.1, (g.3.0, g.3.1, f.heard.3.2)));
           over = λ on. ⊎_elim f.over (k.fits other w was_other).over (either_over v.over w.over on);
         }
 
@@ -325,11 +342,23 @@ module _ {T : Type 0} where
           small = k.small;
           within = k.within;
           cutter = k.cutter;
+          walk = k.walk;
+          walked = k.walked;
+          true_ = k.true_;
+          looked = λ j u e r. ⊎_elim
+              (λ (t : (j ≡ other) × (spent ≡ u)).
+              absurd (spent_is_no_member (ap (λ (y : View T). y.role) t.1 ∙ r)))
+              (λ (t : (j ≢ other) × (get_elem? one j ≡ some u)). ⊎_elim
+              (λ (z : (j ≡ n) × (took_back v w ≡ u)).
+              absurd (no_hub u.role r (ap (λ (y : View T). y.role) (sym z.1) ∙ v_role)))
+              (λ (z : (j ≢ n) × (get_elem? s.views j ≡ some u)). k.looked j u z.1 r)
+              (at_set s.views n j (took_back v w) u t.1))
+              (at_set one other j spent u e);
           undrawn = k.undrawn;
           waits = λ i e le e_at. ⊎_elim (λ z. inl (z.0, half_joins e.by (Writes (spot i e.value)) z.1))
               (λ z. inr z) (k.waits i e le e_at);
-          taken_ = λ i c c_at. ⊎_elim (λ z. inl (z.0, half_joins c.to (Reads (spot i c.entry.value)) z.1))
-              (λ z. inr z) (k.taken_ i c c_at);
+          taken_ = λ i c c_at. let t = k.taken_ i c c_at in
+              (t.0, ⊎_elim (λ z. inl (half_joins c.to (Reads (spot i c.entry.value)) z)) (λ z. inr z) t.1);
           counted = omega arith;
           given = omega arith;
           quiet = ⊎_elim (λ x. inl (omega arith)) (λ x. inr (omega arith)) k.quiet;

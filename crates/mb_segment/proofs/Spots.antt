@@ -1,11 +1,18 @@
 -- Lists of a history: what a pass drew, and what it claimed.
 use Rattle.mb_segment.proofs.Base.{Bool, List, None, Option, Some, [], ap, arith, eq-eqb, false, get_elem?}
-use Rattle.mb_segment.proofs.Base.{if◌then◌else◌, inl, inr, length, length-append, map, nat_eq, ne_eqb, refl}
+use Rattle.mb_segment.proofs.Base.{if◌then◌else◌, inl, inr, length, length-append, map, max, nat_eq, ne_eqb, refl}
 use Rattle.mb_segment.proofs.Base.{replicate, slice_index, slice_set, some, some-injective}
 use Rattle.mb_segment.proofs.Base.{some-ne-none, subst, suc, sym, true, zero, ℕ, ⊎_elim, ◌++◌, ◌+◌, ◌<◌, ◌≤◌, ◌∙◌}
 use Rattle.mb_segment.proofs.Base.{◌∷◌, ◌≡◌, ◌≢◌, ◌⊎◌}
 use Rattle.mb_segment.specs.Vocabulary.{Below, Claim, Entry, Heard, Heeds, History, Spot, View, all_entries, drawn, drew}
 use Rattle.mb_segment.specs.Vocabulary.{entries, spot, spots_by, spots_to, taken, took}
+
+-- the word 64 bytes on, and the word of the state of position p
+abbrev pub far : ℕ → ℕ
+far n = suc (suc (suc (suc (suc (suc (suc (suc n)))))))
+
+abbrev pub state_word : ℕ → ℕ
+state_word p = far (far (suc p))
 
 pub size_set : {A : Type 0} (l : List A) (i : ℕ) (w : A) → length (slice_set l i w) ≡ length l
 size_set [] i w = refl
@@ -162,18 +169,39 @@ module _ {T : Type 0} where
   heeds_more p x k (s ∷ ss) [] le h = absurd h
   heeds_more p x k (s ∷ ss) (j ∷ ks) le h = (h.0, heeds_more p x k ss ks le h.1)
 
+  pub below_less : (b m : ℕ) (ss : List (Spot T)) → b ≤ m → Below b ss → Below m ss
+  below_less b m [] le f = tt
+  below_less b m (s ∷ ss) le f = let lt = f.0 in (omega arith, below_less b m ss le f.1)
+
+  below_snoc : (m p : ℕ) (x : T) (ss : List (Spot T)) → p < m → Below m ss → Below m (ss ++ spot p x ∷ [])
+  below_snoc m p x [] lt f = (lt, tt)
+  below_snoc m p x (s ∷ ss) lt f = (f.0, below_snoc m p x ss lt f.1)
+
   pub heard_draw : (h g : History T) (p : ℕ) (x : T) (v : View T) → drawn h ≤ p → p < drawn g → taken h ≤ taken g
       → Heard h v → Heard g (drew p x v)
-  heard_draw h g p x v next more taken_ f = let a = f.0 in let b = f.1 in (
+  heard_draw h g p x v next more taken_ f = let a = f.0 in let b = f.1 in let k = v.known.drawn in (
     omega arith,
     omega arith,
-    (heeds_more p x v.known.drawn v.account.sent v.account.sent_knew (omega arith) f.2.0, f.2.1, f.2.2),
+    (
+      below_snoc (suc p) p x v.account.sent (omega arith) (below_less k (suc p) v.account.sent (omega arith) f.2.0),
+      below_less k (suc p) v.account.got (omega arith) f.2.1,
+      f.2.2,
+    ),
+    (heeds_more p x k v.account.sent v.account.sent_knew (omega arith) f.3.0, f.3.1, f.3.2),
   )
 
   pub heard_claim : (h g : History T) (p : ℕ) (x : T) (v : View T) → taken h ≤ p → p < taken g → drawn h ≤ drawn g
       → p < drawn g → Heard h v → Heard g (took p x v)
-  heard_claim h g p x v next more drawn_ within f = let a = f.0 in let b = f.1 in (
-    omega arith,
-    omega arith,
-    (f.2.0, heeds_more p x v.known.taken v.account.got v.account.got_knew (omega arith) f.2.1, f.2.2),
-  )
+  heard_claim h g p x v next more drawn_ within f =
+      let a = f.0 in let b = f.1 in let d = v.known.drawn in let k = v.known.taken in
+      let m = max d (suc p) in (
+        omega arith,
+        omega arith,
+        (
+          below_less d m v.account.sent (omega arith) f.2.0,
+          below_snoc m p x v.account.got (omega arith) (below_less d m v.account.got (omega arith) f.2.1),
+          below_snoc (suc p) p x v.account.got (omega arith)
+              (below_less k (suc p) v.account.got (omega arith) f.2.2),
+        ),
+        (f.3.0, heeds_more p x k v.account.got v.account.got_knew (omega arith) f.3.1, f.3.2),
+      )

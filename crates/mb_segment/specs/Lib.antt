@@ -1,6 +1,7 @@
 -- In the order of reading: a file stands on files above it.
 pub mod Types
 pub mod History
+pub mod Walk
 pub mod Sleeping
 pub mod Slots
 pub mod Passes

@@ -1,8 +1,9 @@
 -- How a step changes a view.
-use Rattle.std.specs.Prelude.{Bool, List, None, Option, Some, [], false, max, suc, true, ℕ, ◌+◌, ◌++◌, ◌-◌, ◌<◌, ◌∷◌, ◌||◌, ◌≡◌}
-use Rattle.mb_segment.specs.Types.{Duty, Nothing, Reads, Spot, View, Writes}
+use Rattle.std.specs.Prelude.{Bool, List, None, Option, Some, [], false, max, suc, true, ℕ, ◌+◌, ◌++◌, ◌-◌, ◌<◌, ◌∷◌, ◌||◌, ◌≡◌, ◌≤◌}
+use Rattle.mb_segment.specs.Types.{Duty, Event, Nothing, Reads, Spot, View, Writes}
 use Rattle.mb_segment.specs.History.{spot}
 use Rattle.mb_segment.specs.Passes.{blank, blind, no_tokens}
+use Rattle.mb_segment.specs.Heard.{Below}
 
 abbrev pub with_duty : {T : Type 0} → (Duty → Duty) → View T → View T
 with_duty f v = record v { duty = f v.duty }
@@ -90,8 +91,11 @@ abbrev pub leaves_with_token : Duty → Duty
 leaves_with_token d = record d { wakes = d.wakes + 1; leaving = d.leaving - 1 }
 
 -- ---- tokens
+abbrev pub gives_tokens : {T : Type 0} → ℕ → View T → View T
+gives_tokens n v = record v { tokens = record v.tokens { gave = v.tokens.gave + n } }
+
 abbrev pub gives_token : {T : Type 0} → View T → View T
-gives_token v = record v { tokens = record v.tokens { gave = v.tokens.gave + 1 } }
+gives_token v = gives_tokens 1 v
 
 abbrev pub takes_token : {T : Type 0} → View T → View T
 takes_token v = record v { tokens = record v.tokens { took = v.tokens.took + 1 } }
@@ -121,18 +125,13 @@ sees_cut v = record v { sight = record v.sight { cut = true } }
 abbrev pub did_cut : {T : Type 0} → View T → View T
 did_cut v = record v { account = record v.account { cut = true }; sight = record v.sight { cut = true } }
 
--- it saw that all positions were claimed when n were drawn
-abbrev pub sees_empty : {T : Type 0} → ℕ → View T → View T
-sees_empty n v = record v { sight = record v.sight { empty = n; found = v.sight.found + 1 } }
+-- it saw, after this walk, that all positions were claimed when n were drawn
+abbrev pub sees_empty : {T : Type 0} → ℕ → List Event → View T → View T
+sees_empty n w v = record v { sight = record v.sight { empty = n; found = v.sight.found + 1; walk = w } }
 
 -- how often it saw that
 abbrev pub found_empty : {T : Type 0} → View T → ℕ
 found_empty v = v.sight.found
-
--- each position of the list is below n
-abbrev pub Below : {T : Type 0} → ℕ → List (Spot T) → Type 0
-Below n [] = Unit {0}
-Below n (s ∷ ss) = (s.at < n) × Below n ss
 
 -- when it saw that, all was claimed that it had sent, and the mark that it saw last
 abbrev pub SawAllTaken : {T : Type 0} → View T → Type 0
@@ -143,12 +142,20 @@ SawAllTaken v = Below v.sight.empty v.account.sent
 abbrev pub told : {T : Type 0} → View T → View T
 told v = record v { over = true }
 
--- what it was told rules out no claim, and no draw
-abbrev pub MayTake : {T : Type 0} → View T → Type 0
-MayTake v = v.over ≡ false
+-- position p is behind all that it has learned of, and what it was told rules out no claim, and no draw
+abbrev pub MayTake : {T : Type 0} → ℕ → View T → Type 0
+MayTake p v = (v.known.taken ≤ p) × (v.over ≡ false)
 
-abbrev pub MaySend : {T : Type 0} → View T → Type 0
-MaySend v = (v.sight.full ≡ false) × (v.sight.cut ≡ false) × (v.account.cut ≡ false) × (v.over ≡ false)
+abbrev pub MaySend : {T : Type 0} → ℕ → View T → Type 0
+MaySend p v = (v.known.drawn ≤ p) × (v.sight.full ≡ false) × (v.sight.cut ≡ false) × (v.account.cut ≡ false)
+    × (v.over ≡ false)
+
+-- it learned that so many positions are drawn, or claimed
+abbrev pub learns_drawn : {T : Type 0} → ℕ → View T → View T
+learns_drawn n v = record v { known = record v.known { drawn = n } }
+
+abbrev pub learns_taken : {T : Type 0} → ℕ → View T → View T
+learns_taken n v = record v { known = record v.known { taken = n } }
 
 -- ---- the hub
 abbrev pub issued : {T : Type 0} → View T → View T
@@ -173,10 +180,7 @@ took_back v w = record v {
 abbrev pub is_over : {T : Type 0} → View T → Bool
 is_over v = v.over || v.sight.full || v.sight.cut
 
--- ---- a view without its tokens, one also without what it saw, and one that owes nothing
-abbrev pub uncounted : {T : Type 0} → View T → View T
-uncounted v = record v { tokens = no_tokens }
-
+-- ---- a view without its tokens and what it saw, and one that owes nothing
 abbrev pub bare : {T : Type 0} → View T → View T
 bare v = record v { sight = blind; tokens = no_tokens }
 

@@ -44,7 +44,7 @@ abbrev pub no_tokens : Tokens
 no_tokens = record { gave = 0; took = 0 }
 
 abbrev pub blind : Sight
-blind = record { low = 0; ripe = None; full = false; cut = false; empty = 0; found = 0 }
+blind = record { low = 0; ripe = None; full = false; cut = false; empty = 0; found = 0; walk = [] }
 
 abbrev pub nothing_done : {T : Type 0} → Account T
 nothing_done = record { sent = []; got = []; cut = false; sent_knew = []; got_knew = [] }

@@ -1,13 +1,14 @@
 -- The rule of a segment: its words, slots and views agree with one history.
--- Words: 0 how many positions are drawn, with the top bit once the segment is cut; 1 the list of those that wait: in its
--- low half the tokens that were given and not taken, in its high half those without a token; 8 how many positions are
--- claimed; then the state of each position. Those between stay 0: senders and receivers write to lines of their own.
-use Rattle.std.specs.Prelude.{List, Option, Some, [], false, length, true, ℕ, ◌+◌, ◌*◌, ◌-◌, ◌<◌, ◌≡◌, ◌≢◌, ◌≤◌}
+-- Words: 0 how many positions are drawn, with the top bit once the segment is cut; 8 the list of those that wait: in its
+-- low half the tokens that were given and not taken, in its high half those without a token; 16 how many positions are
+-- claimed; then the state of each position. Those between stay 0, so that no two of the three share a line of memory.
+use Rattle.std.specs.Prelude.{List, Option, Some, [], false, length, true, ℕ, ◌+◌, ◌*◌, ◌-◌, ◌<◌, ◌∷◌, ◌≡◌, ◌≢◌, ◌≤◌}
 use mathlib.Core.Option.{some}
 use lib.ListN.{get_elem?}
 use Rattle.atomic_table.specs.Table.{State}
-use Rattle.mb_segment.specs.Types.{Issuer, Member, Nothing, Spent, View}
+use Rattle.mb_segment.specs.Types.{Event, FoundEmpty, Issuer, Member, Nothing, Sight, Spent, View}
 use Rattle.mb_segment.specs.History.{History, cuts_by, drawn, got_by, has_cut, sent_by, taken}
+use Rattle.mb_segment.specs.Walk.{AreTrue, GoesOn, draws, times_empty, waiting_after}
 use Rattle.mb_segment.specs.Passes.{Distinct, In, Match, member, no_duty, out}
 use Rattle.mb_segment.specs.Heard.{Heard}
 use Rattle.mb_segment.specs.Sleeping.{Quiet, Shut, closing, free, listed, owed, sleeping, tokens_given, tokens_taken, total}
@@ -27,6 +28,12 @@ pub record IsHub {T : Type 0} (h : History T) (hub : ℕ) (roll : List ℕ) (n :
   pub ends : Match h roll v.ends
   pub nothing : v.half ≡ Nothing
   pub idle : v.account.sent ≡ []
+
+-- the looks of pass n in the walk are as many as it counted. The last of them stands on the walk that it saw
+abbrev pub HasLooked : List Event → ℕ → Sight → Type 0
+HasLooked walk n x = (x.found ≡ times_empty n walk)
+    × (0 < x.found → GoesOn (FoundEmpty n ∷ x.walk) walk × (x.found ≡ times_empty n x.walk + 1)
+    × (draws x.walk ≡ x.empty))
 
 -- what the view of number n says is true, and only a pass that is out owes anything. `cut` is not 0 once the segment is
 -- cut
@@ -56,6 +63,11 @@ pub record Keeps {T : Type 0} (s : State (Option T) (View T)) : Type 0 where
   pub small : length states < 9223372036854775808
   pub within : drawn history ≤ length states
   pub cutter : cut ≡ cuts_by history.cutter
+  -- the walk that led here, and the looks of the passes that are out
+  pub walk : List Event
+  pub walked : (draws walk ≡ drawn history) × (waiting_after walk ≡ length history.rest)
+  pub true_ : AreTrue (length states) walk
+  pub looked : (n : ℕ) (v : View T) → get_elem? s.views n ≡ some v → v.role ≡ Member → HasLooked walk n v.sight
   -- what each position holds
   pub undrawn : Undrawn history states s.homes
   pub waits : Waiting history s.views states s.homes
@@ -74,7 +86,8 @@ pub record Keeps {T : Type 0} (s : State (Option T) (View T)) : Type 0 where
   pub rolled : (n : ℕ) → In n roll → n < length s.views
   pub known : hub < length s.views
   pub out_ : total member s.views ≡ total out s.views
-  -- a number that no pass has yet is in no entry
+  -- a number that no pass has yet is in no entry, and looked at nothing
   pub newborn : (n : ℕ) → length s.views ≤ n
       → (sent_by n history ≡ []) × (got_by n history ≡ []) × (has_cut n history ≡ false)
+      × (times_empty n walk ≡ 0)
   pub fits : (n : ℕ) (v : View T) → get_elem? s.views n ≡ some v → Fits history states cut hub roll n v

@@ -1,10 +1,10 @@
 -- Segments of numbers: some that the definitions admit, and some that they refuse. Pass 1 sends, pass 2 receives.
 use Rattle.std.specs.Prelude.{Bool, List, None, Some, [], false, map, true, ℕ, ◌∷◌}
 use mathlib.Core.Option.{some}
-use Rattle.mb_segment.specs.Types.{Account, Spot, View}
+use Rattle.mb_segment.specs.Types.{Account, Claimed, Drew, Event, FoundEmpty, FoundFull, Spot, View}
 use Rattle.mb_segment.specs.History.{Claim, Entry, History, spot}
 use Rattle.mb_segment.specs.Passes.{blank, new_hub, no_duty}
-use Rattle.mb_segment.specs.Moves.{gives_token, owes_wake, sees_empty, with_duty}
+use Rattle.mb_segment.specs.Moves.{gives_token, learns_drawn, owes_wake, sees_empty, takes_token, with_duty}
 use Rattle.mb_segment.specs.Slots.{row}
 use Rattle.mb_segment.specs.Laws.{SegmentState}
 
@@ -44,7 +44,7 @@ view a = record blank { account = a }
 
 -- a pass that sent 10 at position 0, and then saw n positions, all of them claimed
 abbrev pub saw : ℕ → View ℕ
-saw n = sees_empty n (view (account (spot 0 10 ∷ []) [] false))
+saw n = sees_empty n [] (view (account (spot 0 10 ∷ []) [] false))
 
 abbrev pub sleeper : View ℕ
 sleeper = record blank { duty = record no_duty { asleep = 1 } }
@@ -53,10 +53,13 @@ sleeper = record blank { duty = record no_duty { asleep = 1 } }
 abbrev pub unused : ℕ → SegmentState ℕ
 unused word = record { words = row word 0 0 (0 ∷ []); homes = some None ∷ []; views = new_hub ∷ [] }
 
+-- the same, and pass 1 looked once, after this walk, and found nothing
+abbrev pub looked_after : List Event → SegmentState ℕ
+looked_after w = record (unused 0) { views = record new_hub { out = 1 } ∷ sees_empty 0 w blank ∷ [] }
+
 -- the hub owes a wake
 abbrev pub unpaid : SegmentState ℕ
-unpaid =
-    record { words = row 0 0 0 (0 ∷ []); homes = some None ∷ []; views = with_duty owes_wake new_hub ∷ [] }
+unpaid = record (unused 0) { views = with_duty owes_wake new_hub ∷ [] }
 
 -- one of two positions is drawn, for the value 10 of pass 1. Pass 2 sleeps without a token, and nobody owes anything
 abbrev pub overslept : SegmentState ℕ
@@ -74,13 +77,37 @@ forgotten = record {
   views = record new_hub { out = 1 } ∷ sleeper ∷ [];
 }
 
--- there is no position, pass 1 sleeps with a token, and pass 2 is the one that gave it or not
+-- there is no position, and the list has tokens. Two passes are out
+abbrev pub with_tokens : ℕ → View ℕ → View ℕ → SegmentState ℕ
+with_tokens t one two =
+    record { words = row 0 0 t []; homes = []; views = record new_hub { out = 2 } ∷ one ∷ two ∷ [] }
+
+-- pass 1 sleeps with a token, and pass 2 is the one that gave it or not
 abbrev pub woken : View ℕ → SegmentState ℕ
-woken giver = record {
-  words = row 0 0 1 [];
+woken two = with_tokens 1 sleeper two
+
+-- pass 1 took a token
+abbrev pub taken : View ℕ → SegmentState ℕ
+taken two = with_tokens 0 (takes_token blank) two
+
+-- there is no position, and pass 1 knows of n
+abbrev pub knowing : ℕ → SegmentState ℕ
+knowing n = record {
+  words = row 0 0 0 [];
   homes = [];
-  views = record new_hub { out = 2 } ∷ sleeper ∷ giver ∷ [];
+  views = record new_hub { out = 1 } ∷ learns_drawn n blank ∷ [];
 }
 
 abbrev pub giver : View ℕ
 giver = gives_token blank
+
+-- pass 2 finds nothing after the one position drawn is claimed, or before
+abbrev pub walk : List Event
+walk = FoundEmpty 2 ∷ Claimed ∷ Drew ∷ []
+
+abbrev pub false_walk : List Event
+false_walk = FoundEmpty 2 ∷ Drew ∷ []
+
+-- of one position: it is drawn, and then there is no room
+abbrev pub full_walk : List Event
+full_walk = FoundFull 2 ∷ Drew ∷ []

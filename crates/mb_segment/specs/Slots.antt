@@ -1,4 +1,4 @@
--- What each position's state word and slot hold. A state is 0, 1 once the position is marked, 2 once it is read.
+-- What each position's state word and slot hold. A state is 0, and 1 once the position is marked.
 use Rattle.std.specs.Prelude.{List, None, Option, Some, length, ℕ, ◌<◌, ◌∷◌, ◌≡◌, ◌≤◌, ◌⊎◌}
 use mathlib.Core.Option.{some}
 use mathlib.Core.Option as maybe
@@ -6,9 +6,13 @@ use lib.ListN.{get_elem?}
 use Rattle.mb_segment.specs.Types.{Half, Nothing, Reads, View, Writes}
 use Rattle.mb_segment.specs.History.{Claim, Entry, History, all_entries, drawn, spot, taken}
 
--- the words: how many are drawn, how many are claimed, the list, and the states
+-- words that begin 64 bytes behind the one before
+abbrev pub apart : List ℕ → List ℕ
+apart words = 0 ∷ 0 ∷ 0 ∷ 0 ∷ 0 ∷ 0 ∷ 0 ∷ words
+
+-- the words: how many are drawn, the list, how many are claimed, and the states
 abbrev pub row : ℕ → ℕ → ℕ → List ℕ → List ℕ
-row drawn taken list states = drawn ∷ list ∷ 0 ∷ 0 ∷ 0 ∷ 0 ∷ 0 ∷ 0 ∷ taken ∷ states
+row drawn taken list states = drawn ∷ apart (list ∷ apart (taken ∷ states))
 
 -- the slots: none is out with a pass, some is at home and has a value or not
 abbrev pub Homes : Type 0 → Type 0
@@ -33,17 +37,16 @@ abbrev pub Waiting : {T : Type 0} → History T → List (View T) → List ℕ �
 Waiting {T} h views states homes = (k : ℕ) (e : Entry T) → taken h ≤ k → get_elem? (all_entries h) k ≡ some e
     → Waits views states homes k e
 
--- a position claimed: its claimer is still to read the entry's value; or it is read, and the slot is empty
+-- a position claimed: it is marked. Its claimer is still to read the entry's value; or it is read, and the slot is empty
 abbrev pub IsTaken : {T : Type 0} → List (View T) → List ℕ → Homes T → ℕ → Claim T → Type 0
-IsTaken views states homes k c =
-    ((get_elem? states k ≡ some 1) × HasHalf views c.to (Reads (spot k c.entry.value)))
-    ⊎ ((get_elem? states k ≡ some 2) × (get_elem? homes k ≡ some (some None)))
+IsTaken views states homes k c = (get_elem? states k ≡ some 1)
+    × (HasHalf views c.to (Reads (spot k c.entry.value)) ⊎ (get_elem? homes k ≡ some (some None)))
 
 abbrev pub Taken : {T : Type 0} → History T → List (View T) → List ℕ → Homes T → Type 0
 Taken {T} h views states homes = (k : ℕ) (c : Claim T) → get_elem? h.claims k ≡ some c
     → IsTaken views states homes k c
 
--- what a pass has begun is so: it drew the position, which is not marked; or it claimed it, and it is not read
+-- what a pass has begun is so: it drew the position, which is not marked; or it claimed it, which is marked
 abbrev pub HalfFits : {T : Type 0} → History T → List ℕ → ℕ → Half T → Type 0
 HalfFits h states n Nothing = Unit {0}
 HalfFits h states n (Writes s) =

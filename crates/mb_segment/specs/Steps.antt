@@ -1,8 +1,8 @@
 -- What each step tells its caller. `r` is the number found, `m` the seat before, `n` the seat after.
-use Rattle.std.specs.Prelude.{None, Option, Some, ℕ, ◌%◌, ◌+◌, ◌<◌, ◌∷◌, ◌≡◌, ◌≢◌, ◌≤◌}
+use Rattle.std.specs.Prelude.{List, None, Option, Some, ℕ, ◌%◌, ◌+◌, ◌<◌, ◌∷◌, ◌≡◌, ◌≢◌, ◌≤◌}
 use Rattle.atomic_table.specs.Table.{Me, Step, rest}
-use Rattle.mb_segment.specs.Types.{Duty, View}
-use Rattle.mb_segment.specs.Moves.{MaySend, MayTake, SawAllTaken, drew, ended, marked_to, sees_cut, sees_empty, sees_full, sees_mark}
+use Rattle.mb_segment.specs.Types.{Duty, Event, View}
+use Rattle.mb_segment.specs.Moves.{MaySend, MayTake, SawAllTaken, drew, ended, learns_drawn, learns_taken, marked_to, sees_cut, sees_empty, sees_full, sees_mark}
 use Rattle.mb_segment.specs.Moves.{sees_taken, told, took, with_duty}
 
 abbrev pub Sat : Type 0 → Type 0
@@ -23,7 +23,7 @@ exchanging f st m r n = (r ≡ st.first → becomes m n (f m.0)) × (r ≢ st.fi
 -- the exchange that draws a position takes its slot, which is empty. The pass was told nothing that rules a draw out
 abbrev pub drawing : {T : Type 0} → (Duty → Duty) → T → Step (Option T) → Sat T → ℕ → Sat T → Type 0
 drawing f x st m r n =
-    (r ≡ st.first → (n.0 ≡ with_duty f (drew st.first x m.0)) × (n.1 ≡ (st.first, None) ∷ m.1) × MaySend m.0)
+    (r ≡ st.first → (n.0 ≡ with_duty f (drew st.first x m.0)) × (n.1 ≡ (st.first, None) ∷ m.1) × MaySend st.first m.0)
     × (r ≢ st.first → becomes m n m.0)
 
 -- the same for a value that the proof picked
@@ -34,10 +34,10 @@ drawing_picked {T} f picked st m r n = (x : T) → picked ≡ Some x → drawing
 abbrev pub claiming : {T : Type 0} → (Duty → Duty) → Step (Option T) → Sat T → ℕ → Sat T → Type 0
 claiming {T} f st m r n =
     (r ≡ st.first
-    → (x : T) × (n.0 ≡ with_duty f (took st.first x m.0)) × (n.1 ≡ (st.first, Some x) ∷ m.1) × MayTake m.0)
+    → (x : T) × (n.0 ≡ with_duty f (took st.first x m.0)) × (n.1 ≡ (st.first, Some x) ∷ m.1) × MayTake st.first m.0)
     × (r ≢ st.first → becomes m n m.0)
 
--- a store that gives the slot back
+-- a step that gives the slot back
 abbrev pub ending : {T : Type 0} → Step (Option T) → Sat T → ℕ → Sat T → Type 0
 ending st m r n = (n.0 ≡ ended m.0) × (n.1 ≡ rest m.1)
 
@@ -57,6 +57,14 @@ seeing_cut st m r n =
 abbrev pub seeing_taken : {T : Type 0} → Step (Option T) → Sat T → ℕ → Sat T → Type 0
 seeing_taken st m r n = becomes m n (sees_taken r m.0) × (marked_to m.0 ≤ r + 1)
 
+-- a load of the number drawn, or claimed, that the pass learns of. It knew of no more
+abbrev pub learning_drawn : {T : Type 0} → Step (Option T) → Sat T → ℕ → Sat T → Type 0
+learning_drawn st m r n =
+    becomes m n (learns_drawn (r % 9223372036854775808) m.0) × (m.0.known.drawn ≤ r % 9223372036854775808)
+
+abbrev pub learning_taken : {T : Type 0} → Step (Option T) → Sat T → ℕ → Sat T → Type 0
+learning_taken st m r n = becomes m n (learns_taken r m.0) × (m.0.known.taken ≤ r)
+
 -- a load of the state of position k: not 0 once it is marked
 abbrev pub seeing_mark : {T : Type 0} → ℕ → Step (Option T) → Sat T → ℕ → Sat T → Type 0
 seeing_mark k st m r n = (r ≢ 0 → becomes m n (sees_mark k m.0)) × (r ≡ 0 → becomes m n m.0)
@@ -66,7 +74,7 @@ abbrev pub looking : {T : Type 0} → (Duty → Duty) → (Duty → Duty) → St
 looking none_yet none_ever st m r n =
     (m.0.sight.low < r % 9223372036854775808 → becomes m n m.0)
     × (r % 9223372036854775808 ≤ m.0.sight.low → r < st.slots
-    → becomes m n (sees_empty r (with_duty none_yet m.0)) × SawAllTaken n.0)
+    → (w : List Event) × becomes m n (sees_empty r w (with_duty none_yet m.0)) × SawAllTaken n.0)
     × (r % 9223372036854775808 ≤ m.0.sight.low → st.slots ≤ r → becomes m n (told (with_duty none_ever m.0)))
 
 -- a load of the list: nobody waits without a token, or some do

@@ -1,6 +1,8 @@
 -- The types of views, and their variants, under the names that definitions use.
 pub use Rattle.mb_segment.specs.declared.view.Account.{Account}
 pub use Rattle.mb_segment.specs.declared.view.Duty.{Duty}
+pub use Rattle.mb_segment.specs.declared.view.Event.{Event}
+pub use Rattle.mb_segment.specs.declared.view.Event.TheVariants.{Claimed, Drew, FoundEmpty, FoundFull}
 pub use Rattle.mb_segment.specs.declared.view.Half.{Half}
 pub use Rattle.mb_segment.specs.declared.view.Half.TheVariants.{Nothing, Reads, Writes}
 pub use Rattle.mb_segment.specs.declared.view.Known.{Known}

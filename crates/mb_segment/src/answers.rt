@@ -9,7 +9,7 @@ pub enum Draw {
     Full,
     /// The segment was cut.
     Closed,
-    /// Another pass drew or cut first. Draw again.
+    /// Other passes drew or cut first. Draw again.
     Again,
 }
 

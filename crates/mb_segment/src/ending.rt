@@ -4,7 +4,7 @@ ghost use Rattle.mb_segment.specs.{HasLeft, IsWhole, Issuer, hub_view};
 
 use crate::left::Left;
 use crate::segment::{Hub, Segment};
-use crate::words::CUT;
+use crate::words::{CUT, DRAWN, TAKEN};
 use std::alloc::Allocator;
 
 impl<T: Drop, A: Allocator + Drop> Segment<T, A> {
@@ -20,8 +20,8 @@ impl<T: Drop, A: Allocator + Drop> Segment<T, A> {
         let Hub { seat } = hub;
         let Segment { table, size: _ } = self;
         let closed = table.close_with(seat);
-        let drawn = closed.word(0) % CUT;
-        let taken = closed.word(8);
+        let drawn = closed.word(DRAWN) % CUT;
+        let taken = closed.word(TAKEN);
         Left {
             closed,
             at: taken as usize,

@@ -7,8 +7,8 @@ use crate::segment::Pass;
 use crate::view::View;
 use atomic_table::Seat;
 
-/// A pass that owes nothing, has nothing begun, and is not in the list. If it is dropped, it never comes back to the hub,
-/// which cannot end the segment then.
+/// A pass that owes nothing, has nothing begun, and is not in the list. If it is dropped, it never comes back to the
+/// hub, which cannot end the segment then.
 #[derive(Drop)]
 pub struct Idle<T> {
     pub(crate) seat: Seat<Option<T>, View<T>>,
@@ -17,6 +17,13 @@ pub struct Idle<T> {
 }
 
 impl<T> Pass<T> {
+    /// Lets go of a pass, whatever it owes. Nobody pays that: a receiver may then sleep beside a value. It is for the
+    /// drop of an owner that can keep no linear value, as a handle of C.
+    pub fn let_go(self) {
+        let Pass { seat } = self;
+        drop(seat);
+    }
+
     /// The pass at rest.
     pub fn rest(self) -> Idle<T>
         requires free { IsFree self }

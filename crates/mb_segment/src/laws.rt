@@ -1,8 +1,9 @@
 //! The laws of a segment, over all histories. The functions compute nothing: their contracts are the laws.
-ghost use Rattle.std.specs.Prelude.{List, Some, [], length, slice_index, true, ℕ, ◌%◌, ◌+◌, ◌<◌, ◌∷◌, ◌≡◌, ◌≤◌, ◌⊎◌};
+ghost use Rattle.std.specs.Prelude.{List, Some, [], slice_index, true, ℕ, ◌%◌, ◌+◌, ◌<◌, ◌∷◌, ◌≡◌, ◌≤◌, ◌⊎◌};
 ghost use mathlib.Core.Option.{some};
 ghost use lib.ListN.{get_elem?};
-ghost use Rattle.mb_segment.specs.{Claim, Entry, Has, IsCut, IsOfPass, IsOver, IsPassOf, IsViewOf, Issuer, Keeps, Match, Member};
+ghost use Rattle.mb_segment.specs.{Event, FindsEmpty, FoundEmpty, GoesOn, draws, found_empty, positions_in, times_empty, waiting_after};
+ghost use Rattle.mb_segment.specs.{Claim, Entry, Has, Heeds, IsCut, IsOfPass, IsOver, IsPassOf, IsViewOf, Issuer, Keeps, Match, Member};
 ghost use Rattle.mb_segment.specs.{Rises, SawAllTaken, SegmentState, View, all_entries, claimed_in, closing, drawn_in};
 ghost use Rattle.mb_segment.specs.{got_by, is_over, listed, new_hub, owed, sent_by, sleeping, tokens_given, tokens_taken, total};
 
@@ -54,11 +55,42 @@ pub fn over_is_true<T>()
         → IsViewOf s n v → SawAllTaken v
         → Has p x v.account.sent ⊎ (v.sight.ripe ≡ Some p) → p < claimed_in s }
     ensures full { (s : SegmentState T) (k : Keeps s) (n : ℕ) (v : View T) → IsViewOf s n v
-        → v.sight.full ≡ true → drawn_in s ≡ length s.homes }
+        → v.sight.full ≡ true → drawn_in s ≡ positions_in s }
     ensures cut { (s : SegmentState T) (k : Keeps s) (n : ℕ) (v : View T) → IsViewOf s n v
         → v.sight.cut ≡ true → IsCut s }
     ensures over_all { (s : SegmentState T) (k : Keeps s) (n : ℕ) (v : View T) → IsViewOf s n v
         → is_over v ≡ true → IsOver s }
+{}
+
+/// The walk has each draw, each claim, and each look that found nothing, in one order. At each such look nothing waited.
+/// A pass counts its own, and knows the walk before the last one. At the moment at which it counts one, the segment is not
+/// over.
+pub fn empty_is_true<T>()
+    ensures walk { (s : SegmentState T) (k : Keeps s)
+        → (draws k.walk ≡ drawn_in s) × (drawn_in s ≡ claimed_in s + waiting_after k.walk) }
+    ensures counted { (s : SegmentState T) (k : Keeps s) (n : ℕ) (v : View T) → IsPassOf s n v
+        → found_empty v ≡ times_empty n k.walk }
+    ensures empty { (s : SegmentState T) (k : Keeps s) (n : ℕ) (earlier : List Event)
+        → GoesOn (FoundEmpty n ∷ earlier) k.walk → waiting_after earlier ≡ 0 }
+    ensures last { (s : SegmentState T) (k : Keeps s) (n : ℕ) (v : View T) → IsPassOf s n v
+        → 0 < found_empty v → GoesOn (FoundEmpty n ∷ v.sight.walk) k.walk
+        × (found_empty v ≡ times_empty n v.sight.walk + 1)
+        × (draws v.sight.walk ≡ v.sight.empty) × (waiting_after v.sight.walk ≡ 0) }
+    ensures moment { (s : SegmentState T) (k : Keeps s) → FindsEmpty s
+        → (drawn_in s ≡ claimed_in s) × (k.history.rest ≡ []) × (IsOver s → ⊥) }
+{}
+
+/// What a pass has learned of is so, and it has learned of all that it sent and received. Each of its sends stands behind
+/// all sends that it had learned of before, and each receive behind all receives.
+pub fn knowledge_is_true<T>()
+    ensures so { (s : SegmentState T) (k : Keeps s) (n : ℕ) (v : View T) → IsViewOf s n v
+        → (v.known.drawn ≤ drawn_in s) × (v.known.taken ≤ claimed_in s) }
+    ensures sent { (s : SegmentState T) (k : Keeps s) (n : ℕ) (v : View T) (p : ℕ) (x : T)
+        → IsViewOf s n v → Has p x v.account.sent → p < v.known.drawn }
+    ensures got { (s : SegmentState T) (k : Keeps s) (n : ℕ) (v : View T) (p : ℕ) (x : T)
+        → IsViewOf s n v → Has p x v.account.got → (p < v.known.drawn) × (p < v.known.taken) }
+    ensures behind { (s : SegmentState T) (k : Keeps s) (n : ℕ) (v : View T) → IsViewOf s n v
+        → Heeds v.account.sent v.account.sent_knew × Heeds v.account.got v.account.got_knew }
 {}
 
 /// Only a pass cuts the segment, and only one: its account says so. Before a pass is issued, nothing is drawn or cut.
@@ -84,5 +116,5 @@ pub fn no_wake_up_is_lost<T>()
     ensures debtor { (s : SegmentState T) (k : Keeps s) (n : ℕ) (v : View T) → IsViewOf s n v
         → 0 < owed v + listed v → v.role ≡ Member }
     ensures given { (s : SegmentState T) (k : Keeps s) → total tokens_given s.views
-        ≡ slice_index s.words 1 % 4294967296 + total tokens_taken s.views }
+        ≡ slice_index s.words 8 % 4294967296 + total tokens_taken s.views }
 {}

@@ -23,6 +23,11 @@
 //!
 //! [`Segment::send`], [`Segment::receive`], [`Segment::receive_by`] and [`Segment::close`] are made of those.
 //!
+//! # Told by another pass
+//!
+//! By [`Segment::learn_drawn`] and [`Segment::learn_taken`] a pass learns of what others did. Its later calls stand behind
+//! that. [`laws::knowledge_is_true`] says so of each moment.
+//!
 //! # What is kept
 //!
 //! Between any two steps of any threads the words, the slots and what each pass knows agree with one history
@@ -34,6 +39,7 @@ mod effects;
 mod ending;
 mod idle;
 pub mod laws;
+mod learning;
 mod left;
 mod list;
 mod receiving;
@@ -53,5 +59,5 @@ pub use idle::Idle;
 pub use left::Left;
 pub use segment::{Hub, Pass, Segment};
 pub use soon::pause;
-pub use view::{Account, Duty, Half, Known, Role, Sight, Spot, Tokens, View};
+pub use view::{Account, Duty, Event, Half, Known, Role, Sight, Spot, Tokens, View};
 pub use waiting::{NotSent, Received};

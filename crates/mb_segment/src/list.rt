@@ -15,7 +15,7 @@ use std::time::{Clock, Duration, Instant};
 
 /// The word of the list: in its low half the tokens that were given and not taken, in its high half those that wait
 /// without a token.
-const LIST: usize = 1;
+pub(crate) const LIST: usize = 8;
 
 /// One that waits without a token, in the word of the list.
 pub(crate) const LISTED: u64 = 4294967296;
@@ -28,6 +28,7 @@ impl<T: Drop, A: Allocator + Drop> Segment<T, A> {
 
     /// Lets the thread sleep until a token is there. It may also return for no reason.
     pub fn park<R: Wait>(&self, rt: &R, pass: &Pass<T>)
+        requires segment { pass.now.seat.table_id ≡ self.now.table.shared.table_id }
         requires asleep { 0 < (view_in pass.now).duty.asleep }
     {
         let _ = pass;
@@ -36,6 +37,7 @@ impl<T: Drop, A: Allocator + Drop> Segment<T, A> {
 
     /// The same until a deadline. It is `false` if that has come, or if there is no clock.
     pub fn park_by<R: Wait + Clock>(&self, rt: &R, pass: &Pass<T>, deadline: Instant) -> bool
+        requires segment { pass.now.seat.table_id ≡ self.now.table.shared.table_id }
         requires asleep { 0 < (view_in pass.now).duty.asleep }
     {
         let _ = pass;

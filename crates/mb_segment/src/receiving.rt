@@ -5,16 +5,16 @@ ghost use Rattle.mb_segment.specs.{ended, enters, falls_asleep, found_empty, hel
 ghost use Rattle.mb_segment.specs.{view_in, wakes_up, with_duty};
 
 use crate::answers::{Leave, Look, Rest};
-use crate::list::LISTED;
+use crate::list::{LIST, LISTED};
 use crate::rule::Ends;
 use crate::segment::{Pass, Segment};
-use crate::words::{CUT, state_of};
+use crate::words::CUT;
 use std::alloc::Allocator;
 use std::marker::Brand;
 
 impl<T: Drop, A: Allocator + Drop> Segment<T, A> {
-    /// Looks for the first value that waits. A look that finds nothing pays one look that is owed. At that moment all was
-    /// claimed that the pass had sent or seen marked, in this call or before. Three accesses at most.
+    /// Looks for the first value that waits. A look that finds nothing pays one look that is owed, and the pass counts it.
+    /// At that moment nothing waits (`laws::empty_is_true`). Three accesses at most.
     pub fn look(&self, pass: &mut Pass<T>) -> Look
         requires segment { pass.old.seat.table_id ≡ self.now.table.shared.table_id }
         ensures pass { IsStill pass.old pass.new }
@@ -93,7 +93,7 @@ impl<T: Drop, A: Allocator + Drop> Segment<T, A> {
             × (view_in pass.new ≡ with_duty looked (took at x (view_in pass.old)))
             × (held_by pass.new ≡ (at, Some x) ∷ []) }
         ensures missed { result ≡ false → Becomes pass.old pass.new (view_in pass.old) }
-        ensures may { result ≡ true → MayTake (view_in pass.old) }
+        ensures may { result ≡ true → MayTake at (view_in pass.old) }
     {
         self.claim_from(pass, at, at + 1) == at
     }
@@ -111,7 +111,7 @@ impl<T: Drop, A: Allocator + Drop> Segment<T, A> {
             × (view_in pass.new ≡ with_duty done (took at x (view_in pass.old)))
             × (held_by pass.new ≡ (at, Some x) ∷ []) }
         ensures missed { result ≡ false → Becomes pass.old pass.new (view_in pass.old) }
-        ensures may { result ≡ true → MayTake (view_in pass.old) }
+        ensures may { result ≡ true → MayTake at (view_in pass.old) }
     {
         self.claim_listed_from(pass, at, at + 1) == at
     }
@@ -129,9 +129,8 @@ impl<T: Drop, A: Allocator + Drop> Segment<T, A> {
         ensures held { held_by pass.new ≡ [] }
     {
         let value = pass.seat.slot_mut(&self.table.shared, at as usize).take();
-        self.table
-            .shared
-            .store::<Ends>(&mut pass.seat, state_of(at), 2);
+        // Nobody uses the slot again, so a load gives it back. A store would take the states' line from the senders.
+        self.table.shared.load::<Ends>(&mut pass.seat, LIST);
         match value {
             Some(value) => value,
             None => unreachable!(),

@@ -69,7 +69,7 @@ impl<T, F: Effect> Play<Option<T>, View<T>> for Claims<F> {
     ghost then = { claiming F.of };
 }
 
-/// The store that marks a position, or says that it is read.
+/// The store that marks a position, and the load that gives the slot of a claimed one back.
 pub struct Ends;
 
 impl<T> Play<Option<T>, View<T>> for Ends {
@@ -161,6 +161,23 @@ impl<T> Play<Option<T>, View<T>> for SeesTaken {
     ghost use Rattle.mb_segment.specs.Steps.{seeing_taken};
 
     ghost then = { seeing_taken };
+}
+
+/// The load of the number drawn that the pass learns of, and that of the number claimed.
+pub struct LearnsDrawn;
+
+impl<T> Play<Option<T>, View<T>> for LearnsDrawn {
+    ghost use Rattle.mb_segment.specs.Steps.{learning_drawn};
+
+    ghost then = { learning_drawn };
+}
+
+pub struct LearnsTaken;
+
+impl<T> Play<Option<T>, View<T>> for LearnsTaken {
+    ghost use Rattle.mb_segment.specs.Steps.{learning_taken};
+
+    ghost then = { learning_taken };
 }
 
 /// The load of a position's state.

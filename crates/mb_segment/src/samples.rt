@@ -1,10 +1,12 @@
 //! Samples of the definitions: what they admit, and what only looks right. The functions compute nothing: their
 //! contracts are the samples.
 ghost use Rattle.std.specs.Prelude.{List, [], ℕ, ◌∷◌, ◌≡◌};
-ghost use Rattle.mb_segment.specs.{IsCalm, IsCut, IsOver, IsWhole, Keeps, Rises, SawAllTaken, drawn_in, got_by, owes_wake};
-ghost use Rattle.mb_segment.specs.{blank, sent_by, with_duty};
-ghost use Rattle.mb_segment.specs.SegmentSamples.{cutter, falling, foreknown, forgotten, giver, history, overslept};
-ghost use Rattle.mb_segment.specs.SegmentSamples.{receiver, saw, sender, unpaid, unused, view, woken};
+ghost use Rattle.mb_segment.specs.{Heeds, IsCalm, IsCut, IsOver, IsWhole, Keeps, MaySend, MayTake, Rises, SawAllTaken};
+ghost use Rattle.mb_segment.specs.{AreTrue, Claimed, Drew, FindsEmpty, FoundFull, GoesOn, blank, draws, sent_by, times_empty, times_full};
+ghost use Rattle.mb_segment.specs.{drawn_in, got_by, learns_drawn, learns_taken, owes_wake, waiting_after, with_duty};
+ghost use Rattle.mb_segment.specs.SegmentSamples.{cutter, falling, foreknown, forgotten, giver, history, knowing, overslept};
+ghost use Rattle.mb_segment.specs.SegmentSamples.{false_walk, full_walk, looked_after, walk};
+ghost use Rattle.mb_segment.specs.SegmentSamples.{receiver, saw, sender, taken, unpaid, unused, view, woken};
 
 /// The end. Two accounts and what is left of one history are admitted. Refused: a value that two received, two that cut,
 /// and a send to a position that its pass knew to be drawn.
@@ -15,10 +17,9 @@ pub fn sample_ends()
     ensures unheeded { (left : List ℕ) → IsWhole (foreknown ∷ receiver ∷ []) left → ⊥ }
 {}
 
-/// The rule. A new segment is admitted, and one with a token that a pass gave. Refused: a token that nobody gave, one that
-/// is cut before a pass is issued, one whose hub owes a wake, and
-/// two in which a receiver sleeps and nobody owes anything. In one of these a value waits, in the other no more will be
-/// drawn.
+/// The rule. A new segment is admitted, and one with a token that a pass gave, taken or not. Refused: a token that nobody
+/// gave, taken or not, a segment that is cut before a pass is issued, one whose hub owes a wake, and two in which a
+/// receiver sleeps and nobody owes anything. In one of these a value waits, in the other no more will be drawn.
 pub fn sample_states()
     ensures new { Keeps (unused 0) }
     ensures cut { Keeps (unused 9223372036854775808) → ⊥ }
@@ -27,8 +28,22 @@ pub fn sample_states()
     ensures unpaid { Keeps unpaid → ⊥ }
     ensures given { Keeps (woken giver) }
     ensures from_nobody { Keeps (woken blank) → ⊥ }
+    ensures taken { Keeps (taken giver) }
+    ensures taken_from_nobody { Keeps (taken blank) → ⊥ }
     ensures full { IsOver (unused 1) × (IsCut (unused 1) → ⊥) }
     ensures open { (IsOver (unused 0) → ⊥) × (drawn_in (unused 9223372036854775809) ≡ 1) }
+{}
+
+/// What a pass has learned of. Admitted: calls at positions that are not below what it knew of. Refused: a call below
+/// that, and one that knows of a position that nobody drew.
+pub fn sample_knowledge()
+    ensures heeds { Heeds sender.sent sender.sent_knew }
+    ensures unheeded { Heeds foreknown.sent foreknown.sent_knew → ⊥ }
+    ensures sends { MaySend 1 (learns_drawn 1 (view receiver)) }
+    ensures too_low { MaySend 0 (learns_drawn 1 (view receiver)) → ⊥ }
+    ensures takes { MayTake 1 (learns_taken 1 (view receiver)) }
+    ensures taken { MayTake 0 (learns_taken 1 (view receiver)) → ⊥ }
+    ensures made_up { Keeps (knowing 1) → ⊥ }
 {}
 
 /// What a pass did and saw. Admitted: one that sent position 0 and saw one position claimed, and one that owes nothing.
@@ -42,4 +57,23 @@ pub fn sample_views()
     ensures falls { Rises 0 falling → ⊥ }
     ensures sent { (sent_by 1 history ≡ sender.sent) × (sent_by 2 history ≡ []) }
     ensures got { (got_by 2 history ≡ receiver.got) × (got_by 1 history ≡ []) }
+{}
+
+/// Walks of one position. Admitted: a look that found nothing once the position was claimed, one that found no room once
+/// it was drawn, and a state in which a pass looked before that, and looks again. Refused: a look that found nothing while
+/// a value waits, one that found no room while none does, a claim of nothing, and states with such a look.
+pub fn sample_walks()
+    ensures empty { AreTrue 1 walk × AreTrue 1 full_walk }
+    ensures waits { AreTrue 1 false_walk → ⊥ }
+    ensures room { AreTrue 1 (FoundFull 2 ∷ []) → ⊥ }
+    ensures claim { AreTrue 1 (Claimed ∷ []) → ⊥ }
+    ensures times { (times_empty 2 walk ≡ 1) × (times_empty 1 walk ≡ 0)
+        × (times_full 2 full_walk ≡ 1) }
+    ensures counts { (draws walk ≡ 1) × (waiting_after walk ≡ 0) × (waiting_after false_walk ≡ 1) }
+    ensures later { GoesOn (Drew ∷ []) walk }
+    ensures back { GoesOn walk (Drew ∷ []) → ⊥ }
+    ensures looked { Keeps (looked_after []) }
+    ensures overlooked { Keeps (looked_after (Drew ∷ [])) → ⊥ }
+    ensures looks { FindsEmpty (looked_after []) }
+    ensures overlooks { FindsEmpty overslept → ⊥ }
 {}

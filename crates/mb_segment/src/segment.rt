@@ -4,6 +4,7 @@ ghost use Rattle.mb_segment.specs.{IsFree, Issuer, blank, hub_view, issued, new_
 
 use crate::rule::{Passes, SegmentRule};
 use crate::view::View;
+use crate::words::STATES;
 use atomic_table::{Seat, Table};
 use std::alloc::{AllocError, Allocator, Global};
 
@@ -13,7 +14,7 @@ pub struct Segment<T: Drop, A: Allocator + Drop = Global> {
     pub(crate) table: Table<Option<T>, View<T>, (), SegmentRule, A>,
     pub(crate) size: u64,
     ghost sized: { size ≡ table.shared.table_id.slots },
-    ghost wide: { table.shared.table_id.words ≡ size + 9 },
+    ghost wide: { table.shared.table_id.words ≡ size + 17 },
     ghost small: { size < 4294967296 },
 }
 
@@ -37,7 +38,7 @@ impl<T: Drop, A: Allocator + Clone + Drop> Segment<T, A> {
         ensures segment { IfOk result (λ r. r.1.seat.table_id ≡ r.0.table.shared.table_id) }
         ensures hub { IfOk result (λ r. hub_view r.1 ≡ new_hub) }
     {
-        let words = vec![in alloc.clone()?; 0u64; size as usize + 9]?;
+        let words = vec![in alloc.clone()?; 0u64; size as usize + STATES]?;
         let (table, seat) = Table::vacant(alloc, words.as_slice(), size as usize, &())?;
         Ok((
             Segment {

@@ -1,5 +1,5 @@
 //! The calls of senders that never wait.
-ghost use Rattle.std.specs.Prelude.{None, [], ◌+◌, ◌<◌, ◌∷◌, ◌≡◌};
+ghost use Rattle.std.specs.Prelude.{None, [], ◌+◌, ◌<◌, ◌∷◌, ◌≡◌, ◌≢◌};
 ghost use Rattle.mb_segment.specs.{Becomes, IsFree, IsStill, MaySend, Member, OfCut, OfDraw, OfWake, Writes, did_cut};
 ghost use Rattle.mb_segment.specs.{drew, ended, gives_token, has_closed, has_woken, held_by, owes_all, owes_wake, sees_cut, sees_full, spot};
 ghost use Rattle.mb_segment.specs.{view_in, with_duty};
@@ -14,7 +14,7 @@ use std::marker::Brand;
 
 impl<T: Drop, A: Allocator + Drop> Segment<T, A> {
     /// Draws the next position for this value, which counts as sent from then on. The pass has to mark the position,
-    /// and then owes a wake, or for the last position a wake to all. Two accesses.
+    /// and then owes a wake, or for the last position a wake to all. Three accesses at most.
     pub fn draw(&self, pass: &mut Pass<T>, value: &T) -> Draw
         requires segment { pass.old.seat.table_id ≡ self.now.table.shared.table_id }
         requires free { IsFree pass.old }
@@ -25,7 +25,7 @@ impl<T: Drop, A: Allocator + Drop> Segment<T, A> {
             → view_in pass.new ≡ with_duty owes_wake (drew at value.now (view_in pass.old)))
             × (at + 1 ≡ self.now.size
             → view_in pass.new ≡ with_duty owes_all (drew at value.now (view_in pass.old)))
-            × MaySend (view_in pass.old))
+            × MaySend at (view_in pass.old))
             (Becomes pass.old pass.new (sees_full (view_in pass.old)))
             (Becomes pass.old pass.new (sees_cut (view_in pass.old)))
             (Becomes pass.old pass.new (view_in pass.old)) }
@@ -37,15 +37,35 @@ impl<T: Drop, A: Allocator + Drop> Segment<T, A> {
         if seen >= self.size {
             return Draw::Full;
         }
-        let found = if seen + 1 < self.size {
-            self.draw_next::<Brand>(pass, seen, seen + 1, value)
-        } else {
-            self.draw_last::<Brand>(pass, seen, seen + 1, value)
-        };
+        let found = self.draw_from(pass, seen, value);
         if found == seen {
-            Draw::At(seen)
+            return Draw::At(seen);
+        }
+        // Another pass was first. The exchange found the number drawn now, so a second try needs no look.
+        if found < self.size && self.draw_from(pass, found, value) == found {
+            return Draw::At(found);
+        }
+        Draw::Again
+    }
+
+    /// Draws the position, if it is still the next one. One access.
+    fn draw_from(&self, pass: &mut Pass<T>, at: u64, value: &T) -> u64
+        requires segment { pass.old.seat.table_id ≡ self.now.table.shared.table_id }
+        requires free { IsFree pass.old }
+        requires room { at < self.now.size }
+        ensures pass { IsStill pass.old pass.new }
+        ensures drawn { result ≡ at → (held_by pass.new ≡ (at, None) ∷ [])
+            × (at + 1 < self.now.size
+            → view_in pass.new ≡ with_duty owes_wake (drew at value.now (view_in pass.old)))
+            × (at + 1 ≡ self.now.size
+            → view_in pass.new ≡ with_duty owes_all (drew at value.now (view_in pass.old)))
+            × MaySend at (view_in pass.old) }
+        ensures missed { result ≢ at → Becomes pass.old pass.new (view_in pass.old) }
+    {
+        if at + 1 < self.size {
+            self.draw_next::<Brand>(pass, at, at + 1, value)
         } else {
-            Draw::Again
+            self.draw_last::<Brand>(pass, at, at + 1, value)
         }
     }
 

@@ -38,7 +38,7 @@ impl<T: Drop, A: Allocator + Drop> Segment<T, A> {
         ensures found { found_empty (view_in pass.old) ≤ found_empty (view_in pass.new) }
         ensures answer { OfFound result
             (λ x. (at : ℕ) × (bare (view_in pass.new) ≡ got_at at x (calm (view_in pass.old)))
-            × MayTake (view_in pass.old))
+            × MayTake at (view_in pass.old))
             ((bare (view_in pass.new) ≡ calm (view_in pass.old)) × SawAllTaken (view_in pass.new)
             × (found_empty (view_in pass.old) < found_empty (view_in pass.new)))
             (bare (view_in pass.new) ≡ told (calm (view_in pass.old))) }

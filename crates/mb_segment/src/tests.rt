@@ -227,6 +227,26 @@ fn a_receive_ends_by_its_deadline(rt: HostRuntime) -> Result<(), Fail> {
     Ok(())
 }
 
+/// The pass that finds no less than another one knows of all that this one did.
+#[test]
+fn a_pass_learns_what_another_did(rt: HostRuntime) -> Result<(), Fail> {
+    let (segment, mut hub) = Segment::<u64>::new(rt.alloc(), 4)?;
+    let mut sender = segment.issue(&mut hub);
+    let mut receiver = segment.issue(&mut hub);
+    let before = segment.learn_drawn(&mut receiver);
+    drop(segment.send(&rt, &mut sender, 1));
+    drop(segment.send(&rt, &mut sender, 2));
+    let told = segment.learn_drawn(&mut sender);
+    let one = segment.receive(&rt, &mut receiver);
+    let taken = segment.learn_taken(&mut receiver);
+    segment.close(&rt, &mut sender);
+    let after = segment.learn_drawn(&mut receiver);
+    drop(sender.rest());
+    drop(receiver.rest());
+    assert!(rt; before == 0 && told == 2 && one == Some(1) && taken == 1 && after == 2);
+    Ok(())
+}
+
 #[test]
 fn the_end_gives_out_what_is_left(rt: HostRuntime) -> Result<(), Fail> {
     let (segment, mut hub) = Segment::<u64>::new(rt.alloc(), 3)?;

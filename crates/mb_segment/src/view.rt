@@ -18,6 +18,18 @@ pub struct Account<T> {
     pub got_knew: LinkedList<u64>,
 }
 
+/// What happened, in a walk.
+pub enum Event {
+    /// A position was drawn.
+    Drew,
+    /// A position was claimed.
+    Claimed,
+    /// The pass of this number looked, and nothing waited.
+    FoundEmpty(u64),
+    /// The pass of this number looked, and there was no room. Only in a ring.
+    FoundFull(u64),
+}
+
 /// Who holds the view.
 pub enum Role {
     /// The hub, which issues passes and takes them back.
@@ -71,11 +83,13 @@ pub struct Sight {
     pub cut: bool,
     /// At a moment at which as many positions as this were drawn, all of them were claimed.
     pub empty: u64,
-    /// How often it looked and found that none waited.
+    /// How often it looked and found that none waited, and the walk up to the last of these looks.
     pub found: u64,
+    pub walk: LinkedList<Event>,
 }
 
-/// What a pass has learned by its own sends and receives: as many positions as this are drawn, and claimed.
+/// What a pass has learned of: as many positions as this are drawn, and claimed. It learns by its own sends and receives,
+/// and by the looks of [`Segment::learn_drawn`](crate::Segment::learn_drawn) and `learn_taken`.
 pub struct Known {
     pub drawn: u64,
     pub taken: u64,

@@ -1,7 +1,7 @@
 //! The calls that wait: one send, and one receive that sleeps until a value comes.
 ghost use Rattle.std.specs.Prelude.{IfErr, IfNone, IfOk, IfSome, [], false, true, ℕ, ◌+◌, ◌++◌, ◌<◌, ◌∷◌, ◌≡◌, ◌≤◌, ◌⊎◌};
-ghost use Rattle.mb_segment.specs.{Becomes, BecomesUncounted, IsCalm, IsFree, IsStill, MaySend, MayTake, Member, Nothing, OfFound, OfNotSent, OfReceived};
-ghost use Rattle.mb_segment.specs.{SawAllTaken, bare, calm, did_cut, done, ended, enters, falls_asleep, found_empty, gives_up, got_at, has_closed, has_woken, held_by};
+ghost use Rattle.mb_segment.specs.{Becomes, IsCalm, IsFree, IsStill, MaySend, MayTake, Member, Nothing, OfFound, OfNotSent, OfReceived};
+ghost use Rattle.mb_segment.specs.{SawAllTaken, bare, calm, did_cut, done, ended, enters, falls_asleep, found_empty, gives_tokens, gives_up, got_at, has_closed, has_woken, held_by};
 ghost use Rattle.mb_segment.specs.{leaves, looked, marked_to, sees_cut, sent_at, takes_token, told, took, value_of, view_in, wakes_up, with_duty};
 
 use crate::answers::{Cut, Draw, Leave, Look, Rest, Wake};
@@ -26,8 +26,7 @@ pub enum Received<T> {
     Value(T),
     /// The segment is done: each position drawn is claimed, and no more will be drawn.
     Over,
-    /// The deadline came first, or there is no clock. At a moment of this call all was claimed that the pass had sent or
-    /// seen marked.
+    /// The deadline came first, or there is no clock. At a moment of this call nothing waited (`laws::empty_is_true`).
     TimedOut,
 }
 
@@ -40,12 +39,13 @@ pub(crate) enum Found<T> {
 }
 
 impl<T: Drop, A: Allocator + Drop> Segment<T, A> {
-    /// Pays one wake that is owed. If it gives a token, it wakes a thread.
+    /// Pays one wake that is owed. It gives one token at most, and wakes a thread for that.
     pub fn pay<R: Wait>(&self, rt: &R, pass: &mut Pass<T>)
         requires segment { pass.old.seat.table_id ≡ self.now.table.shared.table_id }
         requires owes { 0 < (view_in pass.old).duty.wakes }
         ensures pass { IsStill pass.old pass.new }
-        ensures paid { BecomesUncounted pass.old pass.new (with_duty has_woken (view_in pass.old)) }
+        ensures paid { (n : ℕ) × (n ≤ 1) × Becomes pass.old pass.new
+            (with_duty has_woken (gives_tokens n (view_in pass.old))) }
     {
         for _ in rt.forever() {
             match self.wake(pass) {
@@ -66,8 +66,8 @@ impl<T: Drop, A: Allocator + Drop> Segment<T, A> {
         requires segment { pass.old.seat.table_id ≡ self.now.table.shared.table_id }
         requires owes { 0 < (view_in pass.old).duty.closing }
         ensures pass { IsStill pass.old pass.new }
-        ensures paid { BecomesUncounted pass.old pass.new
-            (with_duty has_closed (view_in pass.old)) }
+        ensures paid { (n : ℕ) × Becomes pass.old pass.new
+            (with_duty has_closed (gives_tokens n (view_in pass.old))) }
     {
         for _ in rt.forever() {
             match self.wake_all(pass) {
@@ -87,7 +87,7 @@ impl<T: Drop, A: Allocator + Drop> Segment<T, A> {
         ensures pass { IsStill pass.old pass.new }
         ensures sent { IfOk result (λ _. (at : ℕ)
             × (bare (view_in pass.new) ≡ sent_at at value (calm (view_in pass.old)))
-            × MaySend (view_in pass.old)) }
+            × MaySend at (view_in pass.old)) }
         ensures found { found_empty (view_in pass.old) ≤ found_empty (view_in pass.new) }
         ensures refused { IfErr result (λ e. (value_of e ≡ value)
             × (bare (view_in pass.new) ≡ calm (view_in pass.old))
@@ -120,7 +120,7 @@ impl<T: Drop, A: Allocator + Drop> Segment<T, A> {
         requires free { IsFree pass.old }
         ensures pass { IsStill pass.old pass.new }
         ensures cut { Becomes pass.old pass.new (sees_cut (view_in pass.old))
-            ⊎ BecomesUncounted pass.old pass.new (did_cut (view_in pass.old)) }
+            ⊎ ((n : ℕ) × Becomes pass.old pass.new (gives_tokens n (did_cut (view_in pass.old)))) }
     {
         for _ in rt.forever() {
             match self.cut(pass) {
@@ -147,7 +147,7 @@ impl<T: Drop, A: Allocator + Drop> Segment<T, A> {
         ensures answer { OfFound result
             (λ x. (at : ℕ)
             × (bare (view_in pass.new) ≡ got_at at x (with_duty looked (bare (view_in pass.old))))
-            × MayTake (view_in pass.old))
+            × MayTake at (view_in pass.old))
             ((bare (view_in pass.new) ≡ with_duty looked (bare (view_in pass.old)))
             × SawAllTaken (view_in pass.new)
             × (found_empty (view_in pass.old) < found_empty (view_in pass.new)))
@@ -181,7 +181,7 @@ impl<T: Drop, A: Allocator + Drop> Segment<T, A> {
         ensures answer { OfFound result
             (λ x. (at : ℕ)
             × (bare (view_in pass.new) ≡ got_at at x (with_duty done (bare (view_in pass.old))))
-            × MayTake (view_in pass.old))
+            × MayTake at (view_in pass.old))
             ((bare (view_in pass.new) ≡ with_duty falls_asleep (bare (view_in pass.old)))
             × SawAllTaken (view_in pass.new)
             × (found_empty (view_in pass.old) < found_empty (view_in pass.new)))
@@ -221,7 +221,9 @@ impl<T: Drop, A: Allocator + Drop> Segment<T, A> {
         requires segment { pass.old.seat.table_id ≡ self.now.table.shared.table_id }
         requires leaving { 0 < (view_in pass.old).duty.leaving }
         ensures pass { IsStill pass.old pass.new }
-        ensures left { BecomesUncounted pass.old pass.new (with_duty leaves (view_in pass.old)) }
+        ensures left { bare (view_in pass.new) ≡ with_duty leaves (bare (view_in pass.old)) }
+        ensures sight { (view_in pass.new).sight ≡ (view_in pass.old).sight }
+        ensures held { held_by pass.new ≡ held_by pass.old }
     {
         for _ in rt.forever() {
             match self.leave(pass) {
@@ -288,7 +290,7 @@ impl<T: Drop, A: Allocator + Drop> Segment<T, A> {
         ensures pass { IsStill pass.old pass.new }
         ensures received { IfSome result (λ x. (at : ℕ)
             × (bare (view_in pass.new) ≡ got_at at x (calm (view_in pass.old)))
-            × MayTake (view_in pass.old)) }
+            × MayTake at (view_in pass.old)) }
         ensures over { IfNone result
             (bare (view_in pass.new) ≡ told (calm (view_in pass.old))) }
         ensures found { found_empty (view_in pass.old) ≤ found_empty (view_in pass.new) }
@@ -334,7 +336,7 @@ impl<T: Drop, A: Allocator + Drop> Segment<T, A> {
         ensures pass { IsStill pass.old pass.new }
         ensures answer { OfReceived result
             (λ x. (at : ℕ) × (bare (view_in pass.new) ≡ got_at at x (calm (view_in pass.old)))
-            × MayTake (view_in pass.old))
+            × MayTake at (view_in pass.old))
             (bare (view_in pass.new) ≡ told (calm (view_in pass.old)))
             ((bare (view_in pass.new) ≡ calm (view_in pass.old)) × SawAllTaken (view_in pass.new)
             × (found_empty (view_in pass.old) < found_empty (view_in pass.new))) }

@@ -1,6 +1,6 @@
 //! Each atomic step on the numbers drawn and claimed, and on the state of a position.
 ghost use Rattle.std.specs.Prelude.{List, None, Option, Some, [], ℕ, ◌%◌, ◌+◌, ◌<◌, ◌∷◌, ◌≡◌, ◌≢◌, ◌≤◌};
-ghost use Rattle.mb_segment.specs.{Becomes, IsStill, MaySend, MayTake, Member, Nothing, SawAllTaken, Spot, did_cut, done, drew};
+ghost use Rattle.mb_segment.specs.{Becomes, Event, IsStill, MaySend, MayTake, Member, Nothing, SawAllTaken, Spot, did_cut, done, drew};
 ghost use Rattle.mb_segment.specs.{falls_asleep, held_by, looked, marked_to, owes_all, owes_wake, sees_cut, sees_empty, sees_full, sees_mark};
 ghost use Rattle.mb_segment.specs.{sees_taken, told, took, view_in, with_duty};
 
@@ -11,11 +11,14 @@ use crate::rule::{
 use crate::segment::{Pass, Segment};
 use std::alloc::Allocator;
 
-/// The words: how many positions are drawn, with the top bit once the segment is cut, and how many are claimed. They are
-/// 64 bytes apart, since senders write the one and receivers the other.
-const DRAWN: usize = 0;
+/// The words: how many positions are drawn, with the top bit once the segment is cut, and how many are claimed. These two
+/// and the list's are 64 bytes apart: senders write the one, receivers the other, and all read the list.
+pub(crate) const DRAWN: usize = 0;
 
-const TAKEN: usize = 8;
+pub(crate) const TAKEN: usize = 16;
+
+/// The word of the first position's state.
+pub(crate) const STATES: usize = 17;
 
 /// The bit of the number drawn that says that the segment is cut.
 pub(crate) const CUT: u64 = 9223372036854775808;
@@ -23,9 +26,9 @@ pub(crate) const CUT: u64 = 9223372036854775808;
 /// The word of a position's state.
 pub(crate) fn state_of(at: u64) -> usize
     requires { at < 4294967296 }
-    ensures { result ≡ at + 9 }
+    ensures { result ≡ at + 17 }
 {
-    at as usize + 9
+    at as usize + STATES
 }
 
 impl<T: Drop, A: Allocator + Drop> Segment<T, A> {
@@ -61,7 +64,7 @@ impl<T: Drop, A: Allocator + Drop> Segment<T, A> {
         ensures pass { IsStill pass.old pass.new }
         ensures drawn { result ≡ at
             → (view_in pass.new ≡ with_duty owes_wake (drew at value.now (view_in pass.old)))
-            × (held_by pass.new ≡ (at, None) ∷ held_by pass.old) × MaySend (view_in pass.old) }
+            × (held_by pass.new ≡ (at, None) ∷ held_by pass.old) × MaySend at (view_in pass.old) }
         ensures missed { result ≢ at → Becomes pass.old pass.new (view_in pass.old) }
     {
         let _ = value;
@@ -87,7 +90,7 @@ impl<T: Drop, A: Allocator + Drop> Segment<T, A> {
         ensures pass { IsStill pass.old pass.new }
         ensures drawn { result ≡ at
             → (view_in pass.new ≡ with_duty owes_all (drew at value.now (view_in pass.old)))
-            × (held_by pass.new ≡ (at, None) ∷ held_by pass.old) × MaySend (view_in pass.old) }
+            × (held_by pass.new ≡ (at, None) ∷ held_by pass.old) × MaySend at (view_in pass.old) }
         ensures missed { result ≢ at → Becomes pass.old pass.new (view_in pass.old) }
     {
         let _ = value;
@@ -157,8 +160,8 @@ impl<T: Drop, A: Allocator + Drop> Segment<T, A> {
         ensures some { (view_in pass.old).sight.low < result % 9223372036854775808
             → Becomes pass.old pass.new (view_in pass.old) }
         ensures empty { result % 9223372036854775808 ≤ (view_in pass.old).sight.low
-            → result < self.now.size
-            → Becomes pass.old pass.new (sees_empty result (with_duty looked (view_in pass.old)))
+            → result < self.now.size → (w : List Event)
+            × Becomes pass.old pass.new (sees_empty result w (with_duty looked (view_in pass.old)))
             × SawAllTaken (view_in pass.new) }
         ensures over { result % 9223372036854775808 ≤ (view_in pass.old).sight.low
             → self.now.size ≤ result
@@ -177,9 +180,9 @@ impl<T: Drop, A: Allocator + Drop> Segment<T, A> {
         ensures some { (view_in pass.old).sight.low < result % 9223372036854775808
             → Becomes pass.old pass.new (view_in pass.old) }
         ensures empty { result % 9223372036854775808 ≤ (view_in pass.old).sight.low
-            → result < self.now.size
-            → Becomes pass.old pass.new
-            (sees_empty result (with_duty falls_asleep (view_in pass.old)))
+            → result < self.now.size → (w : List Event)
+            × Becomes pass.old pass.new
+            (sees_empty result w (with_duty falls_asleep (view_in pass.old)))
             × SawAllTaken (view_in pass.new) }
         ensures over { result % 9223372036854775808 ≤ (view_in pass.old).sight.low
             → self.now.size ≤ result
@@ -200,7 +203,7 @@ impl<T: Drop, A: Allocator + Drop> Segment<T, A> {
         ensures pass { IsStill pass.old pass.new }
         ensures claimed { result ≡ at → (x : T)
             × (view_in pass.new ≡ with_duty looked (took at x (view_in pass.old)))
-            × (held_by pass.new ≡ (at, Some x) ∷ held_by pass.old) × MayTake (view_in pass.old) }
+            × (held_by pass.new ≡ (at, Some x) ∷ held_by pass.old) × MayTake at (view_in pass.old) }
         ensures missed { result ≢ at → Becomes pass.old pass.new (view_in pass.old) }
     {
         self.table
@@ -219,7 +222,7 @@ impl<T: Drop, A: Allocator + Drop> Segment<T, A> {
         ensures pass { IsStill pass.old pass.new }
         ensures claimed { result ≡ at → (x : T)
             × (view_in pass.new ≡ with_duty done (took at x (view_in pass.old)))
-            × (held_by pass.new ≡ (at, Some x) ∷ held_by pass.old) × MayTake (view_in pass.old) }
+            × (held_by pass.new ≡ (at, Some x) ∷ held_by pass.old) × MayTake at (view_in pass.old) }
         ensures missed { result ≢ at → Becomes pass.old pass.new (view_in pass.old) }
     {
         self.table

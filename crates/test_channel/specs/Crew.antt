@@ -1,16 +1,16 @@
--- The ends of a worker are of one channel.
-use Rattle.mb_channel.specs.declared.channel.Channel.{Channel}
+-- The ends of workers are of one channel.
+use Rattle.mb_channel.specs.declared.end.End.{End}
 use Rattle.mb_channel.specs.declared.end.Receiver.{Receiver}
-use Rattle.mb_channel.specs.Ends.{IsEndOf}
+use Rattle.mb_channel.specs.Ends.{AreOfOneChannel}
 use Rattle.test_channel.specs.declared.draws.Sent.{Sent}
 use Rattle.test_channel.specs.declared.receiving.Receiving.{Receiving}
 use Rattle.test_channel.specs.declared.sending.Sending.{Sending}
 
-abbrev pub IsSending : Channel Sent → Sending → Type 0
-IsSending c w = IsEndOf c w.sender.end × IsEndOf c w.keeper.end
+abbrev pub IsSending : End Sent → Sending → Type 0
+IsSending e w = AreOfOneChannel e w.keeper.end
 
-abbrev pub IsReceiving : Channel Sent → Receiving → Type 0
-IsReceiving c w = IsEndOf c w.receiver.end
+abbrev pub IsReceiving : End Sent → Receiving → Type 0
+IsReceiving e w = AreOfOneChannel e w.receiver.end
 
-abbrev pub IsThere : Channel Sent → Receiver Sent → Type 0
-IsThere c r = IsEndOf c r.end
+abbrev pub IsThere : End Sent → Receiver Sent → Type 0
+IsThere e r = AreOfOneChannel e r.end

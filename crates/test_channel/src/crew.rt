@@ -1,6 +1,7 @@
 //! The workers of a round.
 ghost use Rattle.std.specs.Prelude.{All, IfOk};
-ghost use Rattle.mb_channel.specs.Ends.{IsEndOf};
+ghost use Rattle.mb_channel.specs.declared.end.End.{End};
+ghost use Rattle.mb_channel.specs.Ends.{AreOfOneChannel};
 ghost use Rattle.test_channel.specs.Crew.{IsReceiving, IsSending, IsThere};
 
 use crate::account::Account;
@@ -8,7 +9,7 @@ use crate::draws::{Draws, Sent};
 use crate::receiving::Receiving;
 use crate::round::Round;
 use crate::sending::Sending;
-use mb_channel::{Channel, Receiver, Sender};
+use mb_channel::{Receiver, Sender};
 use std::alloc::{AllocError, Global};
 use std::sync::Wait;
 use std::thread::{Threads, map_vec};
@@ -18,22 +19,21 @@ use std::time::Clock;
 pub fn senders<R: Wait>(
     rt: &R,
     alloc: Global,
-    channel: &Channel<Sent>,
     sender: &mut Sender<Sent>,
     receiver: &mut Receiver<Sent>,
     round: &Round,
 ) -> Result<Vec<Sending>, AllocError>
-    requires sender { IsEndOf channel.now sender.old.end }
-    requires receiver { IsEndOf channel.now receiver.old.end }
-    ensures sender { IsEndOf channel.now sender.new.end }
-    ensures receiver { IsEndOf channel.now receiver.new.end }
-    ensures crew { IfOk result (λ crew. All (IsSending channel.now) crew.items) }
+    requires channel { AreOfOneChannel receiver.old.end sender.old.end }
+    ensures sender { AreOfOneChannel receiver.old.end sender.new.end }
+    ensures receiver { AreOfOneChannel receiver.old.end receiver.new.end }
+    ensures crew { IfOk result (λ crew. (e : End Sent)
+        → AreOfOneChannel e receiver.old.end → All (IsSending e) crew.items) }
 {
     let mut crew = Vec::new(alloc);
     for number in 0..round.senders {
         let sending = Sending {
-            sender: channel.another_sender(rt, sender).ok_or(AllocError)?,
-            keeper: channel.another_receiver(rt, receiver).ok_or(AllocError)?,
+            sender: sender.another().ok_or(AllocError)?,
+            keeper: receiver.another().ok_or(AllocError)?,
             draws: Draws::new(round.seed, number, round.drops),
             first: round.first.wrapping_add(number.wrapping_mul(round.each)),
             is_patient: true,
@@ -47,13 +47,12 @@ pub fn senders<R: Wait>(
 pub fn receivers<R: Wait>(
     rt: &R,
     alloc: Global,
-    channel: &Channel<Sent>,
     receiver: &mut Receiver<Sent>,
     round: &Round,
 ) -> Result<Vec<Receiving>, AllocError>
-    requires belongs { IsEndOf channel.now receiver.old.end }
-    ensures belongs { IsEndOf channel.now receiver.new.end }
-    ensures crew { IfOk result (λ crew. All (IsReceiving channel.now) crew.items) }
+    ensures receiver { AreOfOneChannel receiver.old.end receiver.new.end }
+    ensures crew { IfOk result (λ crew. (e : End Sent)
+        → AreOfOneChannel e receiver.old.end → All (IsReceiving e) crew.items) }
 {
     let mut crew = Vec::new(alloc);
     for number in 0..round.receivers {
@@ -62,7 +61,7 @@ pub fn receivers<R: Wait>(
             next.push(0)?;
         }
         let receiving = Receiving {
-            receiver: channel.another_receiver(rt, receiver).ok_or(AllocError)?,
+            receiver: receiver.another().ok_or(AllocError)?,
             draws: Draws::new(round.seed, number.wrapping_add(32), round.drops),
             next,
             first: round.first,
@@ -76,45 +75,37 @@ pub fn receivers<R: Wait>(
 /// Sends all values, each worker in a thread. Returns the receivers to which the senders were given back.
 pub fn send_all<R: Clock + Threads + Wait + Sync>(
     rt: &R,
-    channel: &Channel<Sent>,
     account: &Account,
     crew: Vec<Sending>,
     each: u64,
 ) -> Result<Vec<Receiver<Sent>>, AllocError>
-    requires crew { All (IsSending channel.now) crew.items }
-    ensures ends { IfOk result (λ ends. All (IsThere channel.now) ends.items) }
+    ensures ends { IfOk result (λ ends. (e : End Sent)
+        → All (IsSending e) crew.items → All (IsThere e) ends.items) }
 {
-    map_vec(rt, crew, &|worker| worker.work(rt, channel, account, each))
+    map_vec(rt, crew, &|worker| worker.work(rt, account, each))
 }
 
 /// Receives until each worker had a pill, each in a thread. Returns their receivers.
 pub fn receive_all<R: Clock + Threads + Wait + Sync>(
     rt: &R,
-    channel: &Channel<Sent>,
     account: &Account,
     crew: Vec<Receiving>,
 ) -> Result<Vec<Receiver<Sent>>, AllocError>
-    requires crew { All (IsReceiving channel.now) crew.items }
-    ensures ends { IfOk result (λ ends. All (IsThere channel.now) ends.items) }
+    ensures ends { IfOk result (λ ends. (e : End Sent)
+        → All (IsReceiving e) crew.items → All (IsThere e) ends.items) }
 {
-    map_vec(rt, crew, &|worker| worker.work(rt, channel, account))
+    map_vec(rt, crew, &|worker| worker.work(rt, account))
 }
 
 /// Gives all these ends back to one of them.
-pub fn give_all<R: Wait>(
-    rt: &R,
-    channel: &Channel<Sent>,
-    to: &mut Receiver<Sent>,
-    ends: Vec<Receiver<Sent>>,
-)
-    requires to { IsEndOf channel.now to.old.end }
-    requires ends { All (IsThere channel.now) ends.items }
-    ensures to { IsEndOf channel.now to.new.end }
+pub fn give_all<R: Wait>(rt: &R, to: &mut Receiver<Sent>, ends: Vec<Receiver<Sent>>)
+    requires ends { All (IsThere to.old.end) ends.items }
+    ensures to { AreOfOneChannel to.old.end to.new.end }
 {
     let mut ends = ends;
     for _ in 0..ends.len() {
         if let Some(end) = ends.pop() {
-            channel.give_receiver(rt, to, end);
+            to.give_receiver(rt, end);
         }
     }
 }

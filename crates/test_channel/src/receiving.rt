@@ -1,10 +1,10 @@
 //! A worker that receives.
 ghost use Rattle.std.specs.Prelude.{◌≡◌};
-ghost use Rattle.mb_channel.specs.Ends.{IsEndOf};
+ghost use Rattle.mb_channel.specs.Ends.{AreOfOneChannel};
 
 use crate::account::{Account, add};
 use crate::draws::{Draws, Fate, Sent};
-use mb_channel::{Channel, Receiver, Refused, Tried};
+use mb_channel::{Receiver, Refused, Tried};
 use std::mem::replace;
 use std::sync::Wait;
 use std::thread::yield_now;
@@ -24,20 +24,19 @@ pub struct Receiving {
 
 impl Receiving {
     /// Makes another receiver, and gives back or drops one of the two.
-    fn renew<R: Wait>(&mut self, rt: &R, channel: &Channel<Sent>, account: &Account, fate: Fate)
-        requires belongs { IsEndOf channel.now self.old.receiver.end }
-        ensures belongs { IsEndOf channel.now self.new.receiver.end }
+    fn renew<R: Wait>(&mut self, rt: &R, account: &Account, fate: Fate)
+        ensures { AreOfOneChannel self.old.receiver.end self.new.receiver.end }
     {
-        let Some(other) = channel.another_receiver(rt, &mut self.receiver) else {
+        let Some(other) = self.receiver.another() else {
             add(&account.refused, 1);
             return;
         };
         match fate {
             Fate::Changed => {
                 let old = replace(&mut self.receiver, other);
-                channel.give_receiver(rt, &mut self.receiver, old);
+                self.receiver.give_receiver(rt, old);
             }
-            Fate::Returned => channel.give_receiver(rt, &mut self.receiver, other),
+            Fate::Returned => self.receiver.give_receiver(rt, other),
             Fate::Dropped => {
                 add(&account.dropped, 1);
                 drop(other);
@@ -50,16 +49,11 @@ impl Receiving {
     }
 
     /// Receives in a way that is drawn. It may be that nothing comes.
-    fn receive<R: Clock + Wait>(
-        &mut self,
-        rt: &R,
-        channel: &Channel<Sent>,
-    ) -> Result<Option<Sent>, Refused>
-        requires belongs { IsEndOf channel.now self.old.receiver.end }
-        ensures belongs { IsEndOf channel.now self.new.receiver.end }
+    fn receive<R: Clock + Wait>(&mut self, rt: &R) -> Result<Option<Sent>, Refused>
+        ensures { AreOfOneChannel self.old.receiver.end self.new.receiver.end }
     {
         match (self.draws.below(2), Instant::now(rt)) {
-            (0, _) => match channel.try_receive(&mut self.receiver) {
+            (0, _) => match self.receiver.try_receive() {
                 Ok(Tried::Value(sent)) => Ok(Some(sent)),
                 Ok(_) => {
                     yield_now();
@@ -72,9 +66,9 @@ impl Receiving {
                 let soon = now
                     .checked_add(Duration::from_micros(micros))
                     .unwrap_or(now);
-                channel.receive_by(rt, &mut self.receiver, soon)
+                self.receiver.receive_by(rt, soon)
             }
-            _ => match channel.receive(rt, &mut self.receiver) {
+            _ => match self.receiver.receive(rt) {
                 Ok(sent) => Ok(Some(sent)),
                 Err(why) => Err(why),
             },
@@ -97,21 +91,15 @@ impl Receiving {
     }
 
     /// Receives until a pill comes. Returns the receiver that has all others.
-    pub fn work<R: Clock + Wait>(
-        self,
-        rt: &R,
-        channel: &Channel<Sent>,
-        account: &Account,
-    ) -> Receiver<Sent>
-        requires belongs { IsEndOf channel.now self.receiver.end }
-        ensures belongs { IsEndOf channel.now result.end }
+    pub fn work<R: Clock + Wait>(self, rt: &R, account: &Account) -> Receiver<Sent>
+        ensures { AreOfOneChannel self.receiver.end result.end }
     {
         let mut worker = self;
         for _ in rt.forever() {
             if let Some(fate) = worker.draws.fate() {
-                worker.renew(rt, channel, account, fate);
+                worker.renew(rt, account, fate);
             }
-            match worker.receive(rt, channel) {
+            match worker.receive(rt) {
                 Ok(Some(Sent::Value(value))) => worker.note(account, value),
                 Ok(Some(Sent::Pill)) => break,
                 Ok(None) => {}

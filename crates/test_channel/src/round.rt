@@ -1,13 +1,14 @@
 //! A round: values through a channel of its own, until all workers have stopped and the channel has ended.
 ghost use Rattle.std.specs.Prelude.{All, IfOk};
 ghost use Rattle.std.specs.Thread.{IsSync};
-ghost use Rattle.mb_channel.specs.Ends.{IsEndOf};
+ghost use Rattle.mb_channel.specs.declared.end.End.{End};
+ghost use Rattle.mb_channel.specs.Ends.{AreOfOneChannel};
 ghost use Rattle.test_channel.specs.Crew.{IsReceiving, IsSending, IsThere};
 
 use crate::account::{Account, add, now};
 use crate::crew::{give_all, receive_all, receivers, send_all, senders};
 use crate::draws::{Draws, Drops, Sent};
-use mb_channel::{Channel, Ending, Receiver, Sender};
+use mb_channel::{Ending, Receiver, Sender, unbounded};
 use std::alloc::AllocError;
 use std::sync::Wait;
 use std::thread::{Threads, join};
@@ -69,15 +70,8 @@ impl Round {
 }
 
 /// Sends a pill for each receiver. It is tried again if it is refused.
-fn send_pills<R: Wait>(
-    rt: &R,
-    channel: &Channel<Sent>,
-    account: &Account,
-    sender: Sender<Sent>,
-    many: u64,
-) -> Sender<Sent>
-    requires belongs { IsEndOf channel.now sender.end }
-    ensures belongs { IsEndOf channel.now result.end }
+fn send_pills<R: Wait>(rt: &R, account: &Account, sender: Sender<Sent>, many: u64) -> Sender<Sent>
+    ensures { AreOfOneChannel sender.end result.end }
 {
     let mut sender = sender;
     let mut sent = 0u64;
@@ -85,7 +79,7 @@ fn send_pills<R: Wait>(
         if sent >= many {
             break;
         }
-        match channel.send(rt, &mut sender, Sent::Pill) {
+        match sender.send(rt, Sent::Pill) {
             Ok(()) => sent = sent.saturating_add(1),
             Err(_) => add(&account.refused, 1),
         }
@@ -113,16 +107,8 @@ fn count_left(account: &Account, ending: Ending<Sent>) {
 }
 
 /// Ends the channel by its last receiver, which succeeds exactly if no end was dropped.
-fn end<R: Wait>(
-    rt: &R,
-    account: &Account,
-    channel: Channel<Sent>,
-    last: Receiver<Sent>,
-    is_whole: bool,
-)
-    requires belongs { IsEndOf channel last.end }
-{
-    let ending = channel.end(rt, last);
+fn end<R: Wait>(rt: &R, account: &Account, last: Receiver<Sent>, is_whole: bool) {
+    let ending = last.end(rt);
     if ending.is_some() != is_whole {
         add(&account.misjudged, 1);
     }
@@ -138,32 +124,32 @@ pub fn run<R: AllocGlobal + Clock + Threads + Wait + Sync>(
     account: &Account,
 ) -> Result<(), AllocError> {
     let reserve = Vec::<u8>::with_capacity(rt.alloc(), RESERVE)?;
-    let (channel, mut sender, mut last) = Channel::<Sent>::new(rt.alloc())?;
-    let sending = senders(rt, rt.alloc(), &channel, &mut sender, &mut last, round)?;
-    let receiving = receivers(rt, rt.alloc(), &channel, &mut last, round)?;
-    let w = &channel;
+    let (mut sender, mut last) = unbounded::<Sent>(rt.alloc())?;
+    let sending = senders(rt, rt.alloc(), &mut sender, &mut last, round)?;
+    let receiving = receivers(rt, rt.alloc(), &mut last, round)?;
     let dropped = now(&account.dropped);
     let (each, pills) = (round.each, round.receivers);
     let (received, (sent, sender)) = join(
         rt,
         move || -> Result<Vec<Receiver<Sent>>, AllocError>
-            requires { IsSync R.row × All (IsReceiving w.now) receiving.items }
-            ensures { IfOk result (λ ends. All (IsThere w.entry.now) ends.items) }
-        { receive_all(rt, w, account, receiving) },
+            requires { IsSync R.row }
+            ensures { IfOk result (λ ends. (e : End Sent)
+                → All (IsReceiving e) receiving.items → All (IsThere e) ends.items) }
+        { receive_all(rt, account, receiving) },
         move || -> (Result<Vec<Receiver<Sent>>, AllocError>, Sender<Sent>)
-            requires { IsSync R.row × All (IsSending w.now) sending.items
-                × IsEndOf w.now sender.end }
-            ensures { IfOk result.0 (λ ends. All (IsThere w.entry.now) ends.items)
-                × IsEndOf w.entry.now result.1.end }
+            requires { IsSync R.row }
+            ensures { IfOk result.0 (λ ends. (e : End Sent)
+                → All (IsSending e) sending.items → All (IsThere e) ends.items)
+                × AreOfOneChannel sender.end result.1.end }
         {
-            let sent = send_all(rt, w, account, sending, each);
+            let sent = send_all(rt, account, sending, each);
             drop(reserve);
-            (sent, send_pills(rt, w, account, sender, pills))
+            (sent, send_pills(rt, account, sender, pills))
         },
     );
-    give_all(rt, w, &mut last, received?);
-    give_all(rt, w, &mut last, sent?);
-    w.give_sender(rt, &mut last, sender);
-    end(rt, account, channel, last, now(&account.dropped) == dropped);
+    give_all(rt, &mut last, received?);
+    give_all(rt, &mut last, sent?);
+    last.give_sender(rt, sender);
+    end(rt, account, last, now(&account.dropped) == dropped);
     Ok(())
 }

@@ -1,11 +1,10 @@
 //! A worker that sends.
 ghost use Rattle.std.specs.Prelude.{◌≡◌};
-ghost use Rattle.mb_channel.specs.Ends.{IsEndOf};
-ghost use Rattle.test_channel.specs.Crew.{IsSending};
+ghost use Rattle.mb_channel.specs.Ends.{AreOfOneChannel};
 
 use crate::account::{Account, add};
 use crate::draws::{Draws, Fate, Sent};
-use mb_channel::{Channel, Receiver, Sender};
+use mb_channel::{Receiver, Sender};
 use std::mem::replace;
 use std::sync::Wait;
 use std::thread::sleep;
@@ -28,6 +27,7 @@ pub struct Sending {
     pub first: u64,
     /// Whether it still waits for the receivers.
     pub is_patient: bool,
+    ghost one: { AreOfOneChannel keeper.end sender.end },
 }
 
 impl Sending {
@@ -49,21 +49,20 @@ impl Sending {
     }
 
     /// Makes another sender, and gives back or drops one of the two.
-    fn renew<R: Wait>(&mut self, rt: &R, channel: &Channel<Sent>, account: &Account, fate: Fate)
-        requires belongs { IsSending channel.now self.old }
-        ensures belongs { IsSending channel.now self.new }
+    fn renew<R: Wait>(&mut self, rt: &R, account: &Account, fate: Fate)
+        ensures { AreOfOneChannel self.old.keeper.end self.new.keeper.end }
     {
-        let Some(other) = channel.another_sender(rt, &mut self.sender) else {
+        let Some(other) = self.sender.another() else {
             add(&account.refused, 1);
             return;
         };
         match fate {
             Fate::Changed => {
                 let old = replace(&mut self.sender, other);
-                channel.give_sender(rt, &mut self.keeper, old);
+                self.keeper.give_sender(rt, old);
             }
             Fate::Returned => {
-                channel.give_sender(rt, &mut self.keeper, other);
+                self.keeper.give_sender(rt, other);
             }
             Fate::Dropped => {
                 add(&account.dropped, 1);
@@ -77,41 +76,25 @@ impl Sending {
     }
 
     /// Sends a value. It is `false` if that is refused.
-    fn send<R: Clock + Wait>(
-        &mut self,
-        rt: &R,
-        channel: &Channel<Sent>,
-        account: &Account,
-        value: u64,
-    ) -> bool
-        requires belongs { IsSending channel.now self.old }
-        ensures belongs { IsSending channel.now self.new }
+    fn send<R: Clock + Wait>(&mut self, rt: &R, account: &Account, value: u64) -> bool
+        ensures { AreOfOneChannel self.old.keeper.end self.new.keeper.end }
     {
         self.keep_pace(rt, account, value);
         if let Some(fate) = self.draws.fate() {
-            self.renew(rt, channel, account, fate);
+            self.renew(rt, account, fate);
         }
-        channel
-            .send(rt, &mut self.sender, Sent::Value(value))
-            .is_ok()
+        self.sender.send(rt, Sent::Value(value)).is_ok()
     }
 
     /// Sends so many values, and gives all senders back to the receiver that it returns.
-    pub fn work<R: Clock + Wait>(
-        self,
-        rt: &R,
-        channel: &Channel<Sent>,
-        account: &Account,
-        many: u64,
-    ) -> Receiver<Sent>
-        requires belongs { IsSending channel.now self }
-        ensures belongs { IsEndOf channel.now result.end }
+    pub fn work<R: Clock + Wait>(self, rt: &R, account: &Account, many: u64) -> Receiver<Sent>
+        ensures { AreOfOneChannel self.keeper.end result.end }
     {
         let mut worker = self;
         let mut sent = 0u64;
         for number in 0..many {
             let value = worker.first.wrapping_add(number);
-            if !worker.send(rt, channel, account, value) {
+            if !worker.send(rt, account, value) {
                 add(&account.refused, 1);
                 break;
             }
@@ -126,7 +109,7 @@ impl Sending {
             is_patient: _,
         } = worker;
         let mut keeper = keeper;
-        channel.give_sender(rt, &mut keeper, sender);
+        keeper.give_sender(rt, sender);
         keeper
     }
 }

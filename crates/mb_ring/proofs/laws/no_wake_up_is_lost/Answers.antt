@@ -2,7 +2,7 @@ use Rattle.mb_ring.proofs.Base.{arith, ⊎_elim, ◌≡◌}
 use Rattle.mb_segment.proofs.Halves.{free_shut}
 use Rattle.mb_ring.specs.Vocabulary.{Room, Values, free}
 use Rattle.mb_ring.proofs.Halves.{is_out}
-use Rattle.mb_ring.proofs.Loads.{at0, at1}
+use Rattle.mb_ring.proofs.Loads.{at0, at1, at_list_word}
 use Rattle.mb_ring.proofs.Places.{drawn_is, room_left}
 use Rattle.mb_ring.proofs.laws.no_wake_up_is_lost.Goals as goal
 
@@ -21,6 +21,10 @@ returns-clause-over g c s k q few cut =
     let e = at0 s k in let m = k.small in
     let none_ : free k.cut 1 ≡ 0 = free_shut k.cut 1 (omega arith) in
     ⊎_elim (λ x. absurd (omega arith)) (λ x. omega arith) (k.lists q).shut
+
+pub returns-clause-given : goal.returns-clause-given
+returns-clause-given g c s k q =
+    let n = (k.lists q).narrow in let w = at_list_word q s k in let t = (k.lists q).given in omega arith
 
 pub returns-clause-debtor : goal.returns-clause-debtor
 returns-clause-debtor g c s k q n v at some_ = is_out q v (k.fits n v at).debt some_

@@ -1,8 +1,8 @@
-use Rattle.mb_ring.proofs.Base.{ap, arith, inl, refl, ◌*◌, slice_index, sym, ℕ, ⊎_elim, ◌+◌, ◌≡◌}
+use Rattle.mb_ring.proofs.Base.{[], ap, arith, inl, refl, ◌*◌, slice_index, sym, ℕ, ⊎_elim, ◌+◌, ◌∷◌, ◌≡◌}
 use Rattle.std.proofs.Math.Nat.{zero-mod}
 use Rattle.mb_segment.proofs.Spots.{all_length, at_below, below_length}
-use Rattle.mb_ring.specs.RingSamples.{boasting, crowded, forgotten, overfull, overslept, reused, sent, unused}
-use Rattle.mb_ring.specs.Vocabulary.{Room, Values, all_entries, turn, free}
+use Rattle.mb_ring.specs.RingSamples.{boasting, crowded, forgotten, overfull, overslept, reused, sent, sleeper, unused}
+use Rattle.mb_ring.specs.Vocabulary.{Drew, Room, Values, all_entries, free, sees_empty, turn}
 use Rattle.mb_segment.proofs.Halves.{free_shut}
 use Rattle.mb_ring.proofs.Loads.{at0, at1, at_list_word}
 use Rattle.mb_ring.proofs.PassMoves.{opens}
@@ -57,3 +57,7 @@ returns-clause-crowded c k =
     let n = (k.lists Room).narrow in let m = k.small in let z = k.sized.1 in
     let r = room_left crowded k (λ cut. omega arith) in
     ⊎_elim (λ x. absurd (omega arith)) (λ x. absurd (omega arith)) (k.lists Room).quiet
+
+pub returns-clause-dreams : goal.returns-clause-dreams
+returns-clause-dreams c k = let l = (k.looks 1 (sees_empty 0 (Drew ∷ []) sleeper) refl refl).0.1 (omega arith) in
+    absurd (let d = l.2 in omega arith)

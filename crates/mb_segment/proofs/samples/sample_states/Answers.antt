@@ -1,9 +1,10 @@
 use Rattle.mb_segment.proofs.Base.{[], ap, arith, get_elem?, inl, length, refl, some, some-injective, some-ne-none, subst, suc, sym}
-use Rattle.mb_segment.proofs.Base.{None, zero, ℕ, ⊎_elim, ◌-◌, ◌∷◌, ◌≡◌, ◌≢◌}
-use Rattle.mb_segment.specs.SegmentSamples.{forgotten, giver, overslept, sleeper, unused, woken}
-use Rattle.mb_segment.specs.Vocabulary.{Duty, Fits, History, Issuer, Keeps, Member, View, blank, drawn, free, new_hub, owes_wake, with_duty}
+use Rattle.mb_segment.proofs.Base.{None, zero, ℕ, ⊎_elim, ◌-◌, ◌+◌, ◌∷◌, ◌≡◌, ◌≢◌, ◌≤◌}
+use Rattle.mb_segment.specs.SegmentSamples.{forgotten, giver, overslept, sleeper, taken, unused, with_tokens, woken}
+use Rattle.mb_segment.specs.Vocabulary.{Duty, Fits, HasLooked, History, Issuer, Keeps, Member, View, blank, drawn, free, if_hub, listed, member, new_hub, one_if_member, out}
+use Rattle.mb_segment.specs.Vocabulary.{Sight, owes_wake, row, sleeping, takes_token, tokens_given, tokens_taken, with_duty}
 use Rattle.mb_segment.proofs.Halves.{hub_is_no_member, hub_is_not_spent, spent_is_no_member}
-use Rattle.mb_segment.proofs.Kept.{at0, at1, at2, refit}
+use Rattle.mb_segment.proofs.Kept.{Plain, at0, at1, at2, refit}
 use Rattle.mb_segment.proofs.LookMoves.{none_free}
 use Rattle.mb_segment.proofs.PassMoves.{opens, unseen}
 use Rattle.mb_segment.proofs.Places.{new_open}
@@ -34,7 +35,7 @@ returns-clause-unpaid c k =
     let f = k.fits 0 (with_duty owes_wake new_hub) refl in
     let q = ap (λ (d : Duty). d.wakes) (f.debt hub_is_no_member) in absurd (omega arith)
 
--- ---- a segment with no position, in which a sleeper has a token
+-- ---- a segment with no position, with tokens or not
 abbrev two_out : View ℕ
 two_out = record new_hub { out = 2 }
 
@@ -46,54 +47,79 @@ is_pass n apart = unseen no_entry [] 0 0 [] n Member
     (λ _. record { sent = refl; got = refl; cut = refl; no_hub = apart; not_back = λ in_. in_ })
     (λ e. absurd (hub_is_no_member (sym e))) (λ e. absurd (spent_is_no_member (sym e)))
 
-fits_woken : (n : ℕ) (v : View ℕ) → get_elem? (two_out ∷ sleeper ∷ giver ∷ []) n ≡ some v
-    → Fits no_entry [] 0 0 [] n v
-fits_woken zero v at = subst (λ (u : View ℕ). Fits no_entry [] 0 0 [] 0 u) (some-injective two_out v at)
-    (refit no_entry [] 0 0 [] 0 new_hub two_out (refl, refl, refl, refl, refl, refl, refl, λ _ e. e)
-    (unseen no_entry [] 0 0 [] 0 Issuer (λ e. absurd (hub_is_no_member e)) (λ _. (refl, tt))
-    (λ e. absurd (hub_is_not_spent Issuer refl e))))
-fits_woken (suc zero) v at = subst (λ (u : View ℕ). Fits no_entry [] 0 0 [] 1 u) (some-injective sleeper v at)
-    (refit no_entry [] 0 0 [] 1 blank sleeper (refl, refl, refl, refl, refl, refl, refl, λ no_ e. absurd (no_ refl))
-    (is_pass 1 (λ q. omega arith)))
-fits_woken (suc (suc zero)) v at = subst (λ (u : View ℕ). Fits no_entry [] 0 0 [] 2 u) (some-injective giver v at)
-    (refit no_entry [] 0 0 [] 2 blank giver (refl, refl, refl, refl, refl, refl, refl, λ _ e. e)
-    (is_pass 2 (λ q. omega arith)))
-fits_woken (suc (suc (suc n))) v at = absurd (some-ne-none v (sym at))
+-- one that did nothing, and stands in the list as often as there are tokens
+module _ (one : View ℕ) (plain_ : Plain blank one) where
+  fits_both : (n : ℕ) (v : View ℕ) → get_elem? (two_out ∷ one ∷ giver ∷ []) n ≡ some v
+      → Fits no_entry [] 0 0 [] n v
+  fits_both zero v at = subst (λ (u : View ℕ). Fits no_entry [] 0 0 [] 0 u) (some-injective two_out v at)
+      (refit no_entry [] 0 0 [] 0 new_hub two_out (refl, refl, refl, refl, refl, refl, refl, λ _ e. e)
+      (unseen no_entry [] 0 0 [] 0 Issuer (λ e. absurd (hub_is_no_member e)) (λ _. (refl, tt))
+      (λ e. absurd (hub_is_not_spent Issuer refl e))))
+  fits_both (suc zero) v at = subst (λ (u : View ℕ). Fits no_entry [] 0 0 [] 1 u) (some-injective one v at)
+      (refit no_entry [] 0 0 [] 1 blank one plain_ (is_pass 1 (λ q. omega arith)))
+  fits_both (suc (suc zero)) v at = subst (λ (u : View ℕ). Fits no_entry [] 0 0 [] 2 u) (some-injective giver v at)
+      (refit no_entry [] 0 0 [] 2 blank giver (refl, refl, refl, refl, refl, refl, refl, λ _ e. e)
+      (is_pass 2 (λ q. omega arith)))
+  fits_both (suc (suc (suc n))) v at = absurd (some-ne-none v (sym at))
 
-pub keeps_woken : Keeps (woken giver)
-keeps_woken = record {
-  history = no_entry;
-  states = [];
-  tokens = 1;
-  waiting = 0;
-  cut = 0;
-  words = refl;
-  narrow = omega arith;
-  sized = refl;
-  small = omega arith;
-  within = omega arith;
-  cutter = refl;
-  undrawn = λ k le lt. absurd (omega arith);
-  waits = λ k e le at. absurd (some-ne-none e (sym at));
-  taken_ = λ k c at. absurd (some-ne-none c (sym at));
-  counted = refl;
-  given = refl;
-  quiet = inl (omega arith);
-  shut = inl (omega arith);
-  hub = 0;
-  roll = [];
-  idle = (refl, refl, refl);
-  apart = tt;
-  rolled = λ n in_. absurd in_;
-  known = omega arith;
-  out_ = refl;
-  newborn = λ n l. (refl, refl, refl);
-  fits = fits_woken;
-}
+  looked_both : (n : ℕ) (v : View ℕ) → get_elem? (two_out ∷ one ∷ giver ∷ []) n ≡ some v → HasLooked [] n v.sight
+  looked_both zero v at =
+      subst (λ (u : View ℕ). HasLooked [] 0 u.sight) (some-injective two_out v at) (refl, λ lt. absurd (omega arith))
+  looked_both (suc zero) v at = subst (λ (u : View ℕ). HasLooked [] 1 u.sight) (some-injective one v at)
+      (subst (λ (x : Sight). HasLooked [] 1 x) (sym plain_.3) (refl, λ lt. absurd (omega arith)))
+  looked_both (suc (suc zero)) v at =
+      subst (λ (u : View ℕ). HasLooked [] 2 u.sight) (some-injective giver v at) (refl, λ lt. absurd (omega arith))
+  looked_both (suc (suc (suc n))) v at = absurd (some-ne-none v (sym at))
+
+  keeps_both : (t : ℕ) → t ≤ 1 → listed one ≡ t → sleeping one ≤ t → one.role ≡ Member → one.out ≡ 0
+      → tokens_given one ≡ 0 → t + tokens_taken one ≡ 1 → Keeps (with_tokens t one giver)
+  keeps_both t small in_ sleeps role out_ gave took = record {
+    history = no_entry;
+    states = [];
+    tokens = t;
+    waiting = 0;
+    cut = 0;
+    words = ap (λ m. row 0 0 m []) (omega arith);
+    narrow = omega arith;
+    sized = refl;
+    small = omega arith;
+    within = omega arith;
+    cutter = refl;
+    walk = [];
+    walked = (refl, refl);
+    true_ = tt;
+    looked = λ n v at r. looked_both n v at;
+    undrawn = λ k le lt. absurd (omega arith);
+    waits = λ k e le at. absurd (some-ne-none e (sym at));
+    taken_ = λ k c at. absurd (some-ne-none c (sym at));
+    counted = omega arith;
+    given = omega arith;
+    quiet = inl (omega arith);
+    shut = inl (omega arith);
+    hub = 0;
+    roll = [];
+    idle = (refl, refl, refl);
+    apart = tt;
+    rolled = λ n in_. absurd in_;
+    known = omega arith;
+    out_ = let a : member one ≡ 1 = ap one_if_member role in
+        let b : out one ≡ 0 = ap (λ r. if_hub r one.out) role in omega arith;
+    newborn = λ n l. (refl, refl, refl, refl);
+    fits = fits_both;
+  }
 
 pub returns-clause-given : goal.returns-clause-given
-returns-clause-given c = keeps_woken
+returns-clause-given c = keeps_both sleeper (refl, refl, refl, refl, refl, refl, refl, λ no_ e. absurd (no_ refl))
+    1 (omega arith) refl (omega arith) refl refl refl refl
+
+pub returns-clause-taken : goal.returns-clause-taken
+returns-clause-taken c = keeps_both (takes_token blank) (refl, refl, refl, refl, refl, refl, refl, λ _ e. e)
+    0 (omega arith) refl (omega arith) refl refl refl refl
 
 pub returns-clause-from_nobody : goal.returns-clause-from_nobody
 returns-clause-from_nobody c k =
     let l = at2 (woken blank) k in let n = k.narrow in let t = k.given in absurd (omega arith)
+
+pub returns-clause-taken_from_nobody : goal.returns-clause-taken_from_nobody
+returns-clause-taken_from_nobody c k =
+    let l = at2 (taken blank) k in let n = k.narrow in let t = k.given in absurd (omega arith)

@@ -1,8 +1,8 @@
-use Rattle.std.proofs.Common.{arith, sym, ap, ◌∙◌, ◌∷◌, subst, inl}
+use Rattle.std.proofs.Common.{length, sym, ap, ◌≡◌, ◌∙◌, ◌∷◌, subst}
 use Rattle.atomic_table.specs.Table.{rest}
 use Rattle.mb_channel.specs.Homes.{Longer, Stands}
 use Rattle.mb_channel.proofs.Chairs.{only_one, was}
-use Rattle.mb_channel.proofs.Freed.{all_long, longer_of}
+use Rattle.mb_channel.proofs.Freed.{longer_of, same_of}
 use Rattle.mb_channel.proofs.list.List.add_home.Goals as goal
 
 pub slot_mut-homes-requires : goal.slot_mut-homes-requires
@@ -15,29 +15,31 @@ slot_mut-homes-requires g c = let t = c.requires.homes in (
   ),
 )
 
-pub returns-then-at-homes-clause-homes : goal.returns-then-at-homes-clause-homes
-returns-then-at-homes-clause-homes g c = let t = c.requires.homes in
-    let now = c.slot_mut-homes.result.now in
-    let same = was c.args.chair.now.me.1 t.0 now t.1 c.slot_mut-homes.ensures.value in
-    (now, only_one c.args.chair.now.me.1 t.0 now t.1, t.2, subst (λ l. Stands t.2 l) (sym same) t.3, inl t.4)
-
-pub returns-then-at-homes-2-clause-homes : goal.returns-then-at-homes-2-clause-homes
-returns-then-at-homes-2-clause-homes g c = let t = c.requires.homes in
+pub returns-clause-added : goal.returns-clause-added
+returns-clause-added g c = let t = c.requires.homes in
     let now = c.slot_mut-homes.result.now in
     let same = was c.args.chair.now.me.1 t.0 now t.1 c.slot_mut-homes.ensures.value in
     let s = subst (λ l. Stands t.2 l) (sym same) t.3 in
-    let r = longer_of c.append.result c.args.at t.2 now c.append.new.self s
-    (all_long t.2 now c.args.at s (omega arith) (omega arith)) c.append.ensures.more
-    c.append.ensures.same c.append.ensures.first in (
+    longer_of c.append.result c.args.at t.2 now c.append.new.self s
+    (subst (λ b. length b ≡ c.args.at) (sym t.4) c.requires.last) c.append.ensures.more c.append.ensures.first _
+    (λ gs stands longer. (
       c.append.new.self,
       only_one c.args.chair.now.me.1 t.0 c.append.new.self t.1,
-      r.0,
-      r.1,
-      subst (λ b. Longer c.args.at b r.0) t.4 r.2,
-    )
+      gs,
+      stands,
+      subst (λ b. Longer c.args.at b gs) t.4 longer,
+    ))
 
-pub returns-else-at-homes-2-clause-homes : goal.returns-else-at-homes-2-clause-homes
-returns-else-at-homes-2-clause-homes g c = let t = c.requires.homes in
+pub returns-clause-refused : goal.returns-clause-refused
+returns-clause-refused g c = let t = c.requires.homes in
     let now = c.slot_mut-homes.result.now in
     let same = was c.args.chair.now.me.1 t.0 now t.1 c.slot_mut-homes.ensures.value in
-    (now, only_one c.args.chair.now.me.1 t.0 now t.1, t.2, subst (λ l. Stands t.2 l) (sym same) t.3, inl t.4)
+    let s = subst (λ l. Stands t.2 l) (sym same) t.3 in
+    same_of c.append.result t.2 now c.append.new.self s c.append.ensures.same c.append.ensures.first _
+    (λ stands. (
+      c.append.new.self,
+      only_one c.args.chair.now.me.1 t.0 c.append.new.self t.1,
+      t.2,
+      stands,
+      t.4,
+    ))

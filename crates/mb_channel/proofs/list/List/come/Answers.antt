@@ -1,9 +1,19 @@
-use Rattle.std.proofs.Common.{arith, sym, ap, length, ◌∙◌, ◌<◌, subst, inl}
+use Rattle.std.proofs.Common.{ℕ, arith, sym, ap, length, ◌≡◌, ◌∙◌, ◌<◌, ◌⊎◌, ⊎_elim, subst, inl}
+use Rattle.mb_channel.specs.Answers.{OfCame}
+use Rattle.mb_channel.specs.Types.{Arc, Global, Pass, Segment}
+use Rattle.mb_channel.specs.declared.answers.Came.{Came}
+use Rattle.mb_channel.specs.declared.answers.Came.TheVariants.{Added, NotYet}
 use Rattle.mb_channel.specs.declared.view.Knows.{Knows}
 use Rattle.mb_channel.specs.Homes.{Changes, HasIssued, IsNext, came_to, unlocked, went_on}
 use Rattle.mb_channel.proofs.Chairs.{came_where}
 use Rattle.mb_channel.proofs.Closing.{near_last}
 use Rattle.mb_channel.proofs.list.List.come.Goals as goal
+
+-- what is true where no segment was there
+not_there : {T : Type 0} (r : Came T) (here : Arc (Segment T Global) Global → Pass T → Type 0) (gone : ℕ → Type 0)
+    (none_ closed same : Type 0) → OfCame r here gone none_ closed same → (r ≡ NotYet) ⊎ (r ≡ Added) → none_
+not_there r here gone none_ closed same o = ⊎_elim (λ e. subst (λ x. OfCame x here gone none_ closed same) e o)
+    (λ e. subst (λ x. OfCame x here gone none_ closed same) e o)
 
 pub get_pass-requires-clause-homes : goal.get_pass-requires-clause-homes
 get_pass-requires-clause-homes g c = let x = c.try_lock.ensures.locked c.if-not-try_lock.false in
@@ -58,12 +68,13 @@ pub unlock-requires-clause-homes : goal.unlock-requires-clause-homes
 unlock-requires-clause-homes g c = absurd c.in-Closed.ensures.answer
 
 pub tell-requires-clause-homes : goal.tell-requires-clause-homes
-tell-requires-clause-homes g c = let y = c.in-NotYet.ensures.answer.0 in
+tell-requires-clause-homes g c =
+    let y = (not_there c.get_pass.result _ _ _ _ _ c.get_pass.ensures.answer c.in-NotYet.is).0 in
     (y.0, y.1, y.2, y.3, y.4 ∙ ap (λ (v : Knows _). v.before) (sym c.get_pass.ensures.view))
 
 pub tell-requires-clause-last : goal.tell-requires-clause-last
 tell-requires-clause-last g c = let x = c.try_lock.ensures.locked c.if-not-try_lock.false in
-    let behind = c.in-NotYet.ensures.answer.1 in
+    let behind = (not_there c.get_pass.result _ _ _ _ _ c.get_pass.ensures.answer c.in-NotYet.is).1 in
     let near = near_last x.2 c.args.chair.now.me.0.at x.4.0.0 in
     let here = c.requires.here.0 in
     let same = c.get_pass.ensures.view ∙ x.4.1 in

@@ -1,4 +1,5 @@
 use Rattle.std.proofs.Common.{arith, ◌∙◌}
+use Rattle.mb_ring.specs.Vocabulary.{gives_token}
 use Rattle.mb_ring.proofs.ListMoves.{gives_all, on_same}
 use Rattle.mb_ring.proofs.ring.Ring.give_one_of_all.Goals as goal
 
@@ -14,4 +15,5 @@ compare_exchange-requires g c =
 
 pub returns-clause-given : goal.returns-clause-given
 returns-clause-given g c e =
-    let d = c.compare_exchange.ensures.2.0 e in (d.0 ∙ on_same g.Q.AnyList.want c.args.pass.now.seat.me.0, d.1)
+    let d = c.compare_exchange.ensures.2.0 e in
+    let q = g.Q.AnyList.want in (d.0 ∙ on_same q (gives_token q c.args.pass.now.seat.me.0), d.1)

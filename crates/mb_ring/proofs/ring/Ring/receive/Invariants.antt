@@ -1,5 +1,5 @@
-use Rattle.std.proofs.Common.{◌≡◌}
-use Rattle.mb_ring.specs.Vocabulary.{blinded, calm}
+use Rattle.std.proofs.Common.{◌≡◌, ◌≤◌}
+use Rattle.mb_ring.specs.Vocabulary.{blinded, calm, found_empty, marked_to}
 use Rattle.mb_ring.proofs.ring.Ring.receive.Given as goal
 
 abbrev pub invariant-loop : goal.invariant-loop
@@ -7,3 +7,5 @@ invariant-loop g l =
     (goal.iterator-loop g).can_next l.iterator' × (goal.iterator-loop g).is_finite l.iterator'
     × (l.pass.seat.table_id ≡ l.initial.pass.seat.table_id) × (l.pass.seat.id ≡ l.initial.pass.seat.id)
     × (blinded l.pass.seat.me.0 ≡ calm l.initial.pass.seat.me.0) × (l.pass.seat.me.1 ≡ l.initial.pass.seat.me.1)
+    × (marked_to l.initial.pass.seat.me.0 ≤ marked_to l.pass.seat.me.0)
+    × (found_empty l.initial.pass.seat.me.0 ≤ found_empty l.pass.seat.me.0)

@@ -1,5 +1,5 @@
 use Rattle.std.proofs.Common.{◌≡◌, ◌≤◌}
-use Rattle.mb_ring.specs.Vocabulary.{MaySend, blinded, calm, found_full}
+use Rattle.mb_ring.specs.Vocabulary.{MaySend, blinded, calm, found_full, marked_to}
 use Rattle.mb_ring.proofs.ring.Ring.send_by.Given as goal
 
 abbrev pub invariant-loop : goal.invariant-loop
@@ -9,3 +9,4 @@ invariant-loop g l =
     × (blinded l.pass.seat.me.0 ≡ calm l.initial.pass.seat.me.0) × (l.pass.seat.me.1 ≡ l.initial.pass.seat.me.1)
     × (found_full l.initial.pass.seat.me.0 ≤ found_full l.pass.seat.me.0)
     × MaySend l.fn.pass.seat.me.0
+    × (marked_to l.initial.pass.seat.me.0 ≤ marked_to l.pass.seat.me.0)

@@ -1,6 +1,6 @@
 use Rattle.std.proofs.Common.{ap, arith}
 use Rattle.mb_ring.specs.Vocabulary.{View}
-use Rattle.mb_ring.proofs.PassMoves.{joins}
+use Rattle.mb_ring.proofs.BackMoves.{joins}
 use Rattle.mb_ring.proofs.ring.Ring.take_back.Goals as goal
 
 pub join_seat-requires : goal.join_seat-requires

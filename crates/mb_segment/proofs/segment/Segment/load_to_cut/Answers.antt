@@ -1,5 +1,5 @@
 use Rattle.std.proofs.Common.{arith}
-use Rattle.mb_segment.proofs.DrawMoves.{sees_cuts}
+use Rattle.mb_segment.proofs.AskMoves.{sees_cuts}
 use Rattle.mb_segment.proofs.segment.Segment.load_to_cut.Goals as goal
 
 pub load-requires : goal.load-requires

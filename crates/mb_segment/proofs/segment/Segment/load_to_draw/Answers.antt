@@ -1,5 +1,5 @@
 use Rattle.std.proofs.Common.{arith}
-use Rattle.mb_segment.proofs.DrawMoves.{asks}
+use Rattle.mb_segment.proofs.AskMoves.{asks}
 use Rattle.mb_segment.proofs.segment.Segment.load_to_draw.Goals as goal
 
 pub load-requires : goal.load-requires

@@ -1,9 +1,10 @@
-use Rattle.std.proofs.Common.{◌≡◌}
-use Rattle.mb_segment.specs.Vocabulary.{uncounted}
+use Rattle.std.proofs.Common.{ℕ, ◌≡◌}
+use Rattle.mb_segment.specs.Vocabulary.{gives_tokens}
 use Rattle.mb_segment.proofs.segment.Segment.pay_all.Given as goal
 
 abbrev pub invariant-loop : goal.invariant-loop
 invariant-loop g l =
     (goal.iterator-loop g).can_next l.iterator' × (goal.iterator-loop g).is_finite l.iterator'
     × (l.pass.seat.table_id ≡ l.initial.pass.seat.table_id) × (l.pass.seat.id ≡ l.initial.pass.seat.id)
-    × (uncounted l.pass.seat.me.0 ≡ uncounted l.initial.pass.seat.me.0) × (l.pass.seat.me.1 ≡ l.initial.pass.seat.me.1)
+    × ((n : ℕ) × (l.pass.seat.me.0 ≡ gives_tokens n l.initial.pass.seat.me.0))
+    × (l.pass.seat.me.1 ≡ l.initial.pass.seat.me.1)

@@ -1,6 +1,6 @@
-use Rattle.test_channel.specs.Crew.{IsSending}
+use Rattle.mb_channel.specs.Ends.{AreOfOneChannel}
 use Rattle.test_channel.proofs.sending.Sending.work.Given as goal
 
--- after each value sent the worker's ends are still of the channel
+-- after each value sent the worker's keeper is still of its channel
 abbrev pub invariant-loop-number : goal.invariant-loop-number
-invariant-loop-number g l = IsSending l.channel l.worker
+invariant-loop-number g l = AreOfOneChannel l.initial.worker.keeper.end l.worker.keeper.end

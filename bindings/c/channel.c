@@ -1,0 +1,209 @@
+/* The sleep of the channel's receivers, made of the proved calls and of POSIX threads. Link this file, or functions of your own
+ * with the same names: all are weak.
+ * A receiver that is to sleep stands in a list with its place, and then looks once more. So it meets a token that was given
+ * before, and a wake that finds nobody at its place in the list may be forgotten. */
+#undef _POSIX_C_SOURCE
+#define _POSIX_C_SOURCE 200809L
+#include "hazbultra_channel.h"
+#include <pthread.h>
+#include <sched.h>
+#include <stdatomic.h>
+#include <stdlib.h>
+
+#define WEAK __attribute__((weak))
+
+enum { LOOKS = 10, SPINS = 6 }; /* looks before a sleep, and how many of the pauses between them spin */
+
+struct sleeper {
+    struct sleeper *next;
+    uint64_t place;
+    bool listed;
+    pthread_cond_t woken;
+};
+
+struct hz_sleepers {
+    _Atomic size_t ends; /* how many ends share it */
+    pthread_mutex_t lock;
+    struct sleeper *first;
+};
+
+static void pause_after(unsigned tries) {
+    for (volatile unsigned i = 0; tries < SPINS && i < 1u << tries; i++) {}
+    if (tries >= SPINS)
+        sched_yield();
+}
+
+/* Takes this sleeper out of the list, or else the first at this place, and wakes it. False if there was none. */
+static bool take_out(hz_sleepers *all, const struct sleeper *self, uint64_t place) {
+    pthread_mutex_lock(&all->lock);
+    struct sleeper **at = &all->first;
+    while (*at && (self ? *at != self : (*at)->place != place))
+        at = &(*at)->next;
+    struct sleeper *found = *at;
+    if (found) {
+        *at = found->next;
+        found->listed = false;
+        pthread_cond_signal(&found->woken);
+    }
+    pthread_mutex_unlock(&all->lock);
+    return found;
+}
+
+/* A receiver leaves the list. If it was woken while it did not sleep, another one has to be. */
+static void leave(hz_sleepers *all, const struct sleeper *self) {
+    if (!take_out(all, self, 0))
+        take_out(all, NULL, self->place);
+}
+
+static void enlist(hz_sleepers *all, struct sleeper *self, uint64_t place) {
+    pthread_mutex_lock(&all->lock);
+    self->next = all->first;
+    self->place = place;
+    self->listed = true;
+    all->first = self;
+    pthread_mutex_unlock(&all->lock);
+}
+
+/* Sleeps until somebody takes it out of the list, but 10 ms at most: then it looks again, in case a wake went to one that did not
+ * sleep. False if the deadline came first. */
+static bool sleep_by(hz_sleepers *all, struct sleeper *self, const struct timespec *deadline) {
+    struct timespec until;
+    clock_gettime(CLOCK_MONOTONIC, &until);
+    until.tv_nsec += 10000000;
+    until.tv_sec += until.tv_nsec / 1000000000;
+    until.tv_nsec %= 1000000000;
+    bool last = deadline && (deadline->tv_sec < until.tv_sec ||
+                             (deadline->tv_sec == until.tv_sec && deadline->tv_nsec <= until.tv_nsec));
+    int late = 0;
+    pthread_mutex_lock(&all->lock);
+    while (self->listed && !late)
+        late = pthread_cond_timedwait(&self->woken, &all->lock, last ? deadline : &until);
+    bool woken = !self->listed;
+    pthread_mutex_unlock(&all->lock);
+    if (!woken && !last)
+        leave(all, self);
+    return woken || !last;
+}
+
+/* Wakes whom the call told to wake, and pays what the end still owes. */
+static void settle(hz_end *end, hz_sleepers *all, hz_wake *told) {
+    while (told->threads || told->owes) {
+        if (told->threads)
+            take_out(all, NULL, told->place);
+        told->threads = 0;
+        if (told->owes)
+            hz_channel_pay(end, told);
+    }
+}
+
+/* Makes a call until it is done. */
+static uint32_t finish(uint32_t (*call)(hz_end *, hz_wake *), hz_end *end, hz_sleepers *all) {
+    for (unsigned tries = 0;; pause_after(tries++)) {
+        hz_wake told;
+        uint32_t code = call(end, &told);
+        settle(end, all, &told);
+        if (code != HZ_AGAIN)
+            return code;
+    }
+}
+
+static uint32_t receive(hz_receiver *from, struct sleeper *self, uint64_t *value, const struct timespec *deadline) {
+    bool listed = false; /* whether it came into the list, and has not slept there */
+    for (unsigned tries = 0;;) {
+        hz_wake told = {0, 0, 0};
+        uint32_t code = hz_channel_receive(&from->end, value, &told);
+        uint64_t place = told.place;
+        settle(&from->end, from->sleepers, &told);
+        if (listed && code != HZ_SLEEPS)
+            leave(from->sleepers, self);
+        if (code == HZ_SLEEPS && !listed) {
+            enlist(from->sleepers, self, place);
+        } else if (code == HZ_SLEEPS && !sleep_by(from->sleepers, self, deadline)) {
+            finish(hz_channel_pay, &from->end, from->sleepers);
+            leave(from->sleepers, self);
+            return HZ_NOTHING;
+        } else if (code == HZ_AGAIN) {
+            pause_after(tries++);
+        } else if (code != HZ_SLEEPS) {
+            return code;
+        }
+        listed = code == HZ_SLEEPS && !listed;
+    }
+}
+
+WEAK uint32_t hz_recv_by(hz_receiver *from, uint64_t *value, const struct timespec *deadline) {
+    for (unsigned tries = 0; tries < LOOKS; pause_after(tries++)) {
+        uint32_t code = hz_channel_try_receive(&from->end, value);
+        if (code != HZ_NOTHING && code != HZ_AGAIN)
+            return code;
+    }
+    struct sleeper self = {0};
+    pthread_condattr_t monotonic;
+    pthread_condattr_init(&monotonic);
+    pthread_condattr_setclock(&monotonic, CLOCK_MONOTONIC);
+    pthread_cond_init(&self.woken, &monotonic);
+    pthread_condattr_destroy(&monotonic);
+    uint32_t code = receive(from, &self, value, deadline);
+    pthread_cond_destroy(&self.woken);
+    return code;
+}
+
+WEAK uint32_t hz_try_send(hz_sender *sender, uint64_t value) {
+    hz_wake told;
+    uint32_t code = hz_channel_send(&sender->end, value, &told);
+    settle(&sender->end, sender->sleepers, &told);
+    return code;
+}
+
+WEAK uint32_t hz_send(hz_sender *sender, uint64_t value) {
+    uint32_t code;
+    for (unsigned tries = 0; (code = hz_try_send(sender, value)) == HZ_AGAIN; tries++)
+        pause_after(tries);
+    return code;
+}
+
+WEAK uint32_t hz_channel(hz_sender *sender, hz_receiver *receiver) {
+    hz_sleepers *all = malloc(sizeof *all);
+    uint32_t code = all ? hz_channel_new(&sender->end, &receiver->end) : HZ_NO_MEMORY;
+    if (code == HZ_DONE)
+        *(sender->sleepers = receiver->sleepers = all) = (hz_sleepers){2, PTHREAD_MUTEX_INITIALIZER, NULL};
+    else
+        free(all);
+    return code;
+}
+
+static uint32_t another(hz_end *end, hz_end *other, hz_sleepers *all, hz_sleepers **shared) {
+    uint32_t code = hz_channel_another(end, other);
+    if (code == HZ_DONE)
+        atomic_fetch_add(&(*shared = all)->ends, 1);
+    return code;
+}
+
+WEAK uint32_t hz_sender_clone(hz_sender *sender, hz_sender *other) {
+    return another(&sender->end, &other->end, sender->sleepers, &other->sleepers);
+}
+
+WEAK uint32_t hz_receiver_clone(hz_receiver *receiver, hz_receiver *other) {
+    return another(&receiver->end, &other->end, receiver->sleepers, &other->sleepers);
+}
+
+WEAK uint32_t hz_close(hz_sender *sender) {
+    return finish(hz_channel_close, &sender->end, sender->sleepers);
+}
+
+static uint32_t free_end(hz_end *end, hz_sleepers *all) {
+    uint32_t code = finish(hz_channel_free, end, all);
+    if (code == HZ_DONE && atomic_fetch_sub(&all->ends, 1) == 1) {
+        pthread_mutex_destroy(&all->lock);
+        free(all);
+    }
+    return code;
+}
+
+WEAK uint32_t hz_sender_free(hz_sender *sender) {
+    return free_end(&sender->end, sender->sleepers);
+}
+
+WEAK uint32_t hz_receiver_free(hz_receiver *receiver) {
+    return free_end(&receiver->end, receiver->sleepers);
+}

@@ -1,0 +1,129 @@
+-- What a call does to the end that a handle leads to.
+use Rattle.std.specs.Prelude.{◌≡◌, ◌⊎◌, ℕ, Option, Some}
+use Rattle.mb_channel.specs.declared.held.Held.{Held}
+use Rattle.mb_channel.specs.declared.held.Held.TheVariants as held
+use Rattle.mb_channel.specs.Ends.{AreOfOneChannel, IsBehind, IsFresh, IsSame, Standing, got_by, log_of, stand_of}
+use Rattle.mb_channel.specs.Receives.{FoundNone, SawEmpty}
+use Rattle.mb_channel.specs.Standing.{NoMore, OneGot, got_in, sent_in, stand_with}
+use Rattle.mb_channel.specs.Wakes.{Tells, Wakes, wakes_of, wakes_with}
+use Rattle.hazbultra_channel.specs.declared.codes.TheConstants.{CLOSED, CROWDED, NO_MEMORY}
+use Rattle.hazbultra_channel.specs.declared.thing.Thing.{Thing}
+use Rattle.hazbultra_channel.specs.declared.thing.Thing.TheVariants.{OfEnd}
+
+-- where the end is, and what it did
+abbrev pub stand_held : {T : Type 0} → Held T → Standing T
+stand_held (held.OfSender s) = stand_of s.end
+stand_held (held.OfOwing o) = stand_with o.debtor
+stand_held (held.OfReceiver r) = stand_of r.end
+stand_held (held.OfLeaving l) = stand_with l.debtor
+stand_held (held.OfAsleep a) = stand_with a.debtor
+stand_held (held.OfDeparting d) = stand_of d.end
+stand_held (held.OfCutter c) = stand_with c.debtor
+
+-- the tokens that it gave, and for how many of them its caller is still to be told to wake a thread
+abbrev pub wakes_held : {T : Type 0} → Held T → Wakes
+wakes_held (held.OfSender s) = wakes_of s.end
+wakes_held (held.OfOwing o) = wakes_with o.debtor
+wakes_held (held.OfReceiver r) = wakes_of r.end
+wakes_held (held.OfLeaving l) = wakes_with l.debtor
+wakes_held (held.OfAsleep a) = wakes_with a.debtor
+wakes_held (held.OfDeparting d) = wakes_of d.end
+wakes_held (held.OfCutter c) = wakes_with c.debtor
+
+-- it neither owes anything nor sleeps
+abbrev pub IsAtRest : {T : Type 0} → Held T → Type 0
+IsAtRest (held.OfSender s) = Unit {0}
+IsAtRest (held.OfOwing o) = ⊥
+IsAtRest (held.OfReceiver r) = Unit {0}
+IsAtRest (held.OfLeaving l) = ⊥
+IsAtRest (held.OfAsleep a) = ⊥
+IsAtRest (held.OfDeparting d) = Unit {0}
+IsAtRest (held.OfCutter c) = ⊥
+
+-- it sleeps in the list of those that wait, so the law of sleep covers it
+abbrev pub IsAsleep : {T : Type 0} → Held T → Type 0
+IsAsleep (held.OfAsleep a) = Unit {0}
+IsAsleep _ = ⊥
+
+-- a sender that does not go, with or without something owed
+abbrev pub IsSending : {T : Type 0} → Held T → Type 0
+IsSending (held.OfSender s) = Unit {0}
+IsSending (held.OfOwing o) = Unit {0}
+IsSending _ = ⊥
+
+-- a receiver that does not go, also one that sleeps
+abbrev pub IsReceiving : {T : Type 0} → Held T → Type 0
+IsReceiving (held.OfReceiver r) = Unit {0}
+IsReceiving (held.OfLeaving l) = Unit {0}
+IsReceiving (held.OfAsleep a) = Unit {0}
+IsReceiving _ = ⊥
+
+-- it was told that the channel is closed, for ever
+abbrev pub WasTold : {T : Type 0} → Held T → Type 0
+WasTold (held.OfSender s) = IsBehind s.end
+WasTold (held.OfReceiver r) = IsBehind r.end
+WasTold _ = ⊥
+
+-- nothing was sent or received, and the caller was told to wake n threads
+abbrev pub OnlyTold : {T : Type 0} → ℕ → Held T → Held T → Type 0
+OnlyTold n h k = NoMore (stand_held h) (stand_held k) × Tells n (wakes_held h) (wakes_held k)
+
+-- ---- what a handle leads to
+-- a handle leads to an end for which R holds
+abbrev pub EndMade : (Held ℕ → Type 0) → Option Thing → Type 0
+EndMade R (Some (OfEnd s)) = R s.held
+EndMade R _ = ⊥
+
+-- both lead to an end, and R holds of the two: one handle before a call and after it, or two handles
+abbrev pub EndWent : (Held ℕ → Held ℕ → Type 0) → Option Thing → Option Thing → Type 0
+EndWent R (Some (OfEnd s)) (Some (OfEnd t)) = R s.held t.held
+EndWent R _ _ = ⊥
+
+-- the code of a refusal
+abbrev pub IsRefusal : ℕ → Type 0
+IsRefusal code = (code ≡ NO_MEMORY) ⊎ (code ≡ CLOSED) ⊎ (code ≡ CROWDED)
+
+-- it paid: it did nothing else, its caller was told to wake n threads, and it still sends, receives or goes
+abbrev pub HasPaid : {T : Type 0} → ℕ → Held T → Held T → Type 0
+HasPaid n h k = OnlyTold n h k × (IsSending h → IsSending k) × (IsReceiving h → IsReceiving k)
+
+-- ---- ends that are made
+-- the handles lead to a sender and a receiver of one channel, which did nothing yet
+abbrev pub AreNew : Held ℕ → Held ℕ → Type 0
+AreNew (held.OfSender s) (held.OfReceiver r) = AreOfOneChannel s.end r.end × IsFresh s.end × IsFresh r.end
+AreNew h k = ⊥
+
+-- the second handle leads to an end that did nothing yet, of the same kind and channel as the first one's
+abbrev pub IsAnother : Held ℕ → Held ℕ → Type 0
+IsAnother (held.OfSender s) (held.OfSender t) = AreOfOneChannel s.end t.end × IsFresh t.end
+IsAnother (held.OfReceiver r) (held.OfReceiver q) = AreOfOneChannel r.end q.end × IsFresh q.end
+IsAnother h k = ⊥
+
+-- the end has sent and received what it had
+abbrev pub StaysSo : {T : Type 0} → Held T → Held T → Type 0
+StaysSo (held.OfSender s) (held.OfSender t) = log_of t.end ≡ log_of s.end
+StaysSo (held.OfReceiver r) (held.OfReceiver q) = log_of q.end ≡ log_of r.end
+StaysSo h k = k ≡ h
+
+-- ---- a receive that never goes to sleep
+-- the receiver received x
+abbrev pub Got : ℕ → Held ℕ → Held ℕ → Type 0
+Got x (held.OfReceiver r) (held.OfReceiver q) = OneGot x (stand_of r.end) (stand_of q.end)
+Got x h k = ⊥
+
+-- it received nothing
+abbrev pub GotNothing : {T : Type 0} → Held T → Held T → Type 0
+GotNothing (held.OfReceiver r) (held.OfReceiver q) = IsSame r.end q.end × (got_by q.end ≡ got_by r.end)
+GotNothing h k = k ≡ h
+
+-- it looked, and nothing waited at that moment
+abbrev pub FoundNothing : {T : Type 0} → Held T → Held T → Type 0
+FoundNothing (held.OfReceiver r) (held.OfReceiver q) = SawEmpty (stand_of r.end) (stand_of q.end)
+    ⊎ FoundNone (stand_of r.end) (stand_of q.end)
+FoundNothing h k = ⊥
+
+-- ---- an end that goes
+-- it sent and received nothing, and its caller was told to wake n threads
+abbrev pub IsGoing : {T : Type 0} → ℕ → Held T → Held T → Type 0
+IsGoing n h k = (sent_in (stand_held k) ≡ sent_in (stand_held h)) × (got_in (stand_held k) ≡ got_in (stand_held h))
+    × Tells n (wakes_held h) (wakes_held k)

@@ -1,0 +1,117 @@
+//! The calls that close a channel, and let an end go.
+ghost use Rattle.std.specs.Prelude.{◌≡◌, ◌≢◌, ◌⊎◌, IfNone, IfSome, None};
+ghost use Rattle.mb_channel.specs.declared.held.Held.TheVariants as held;
+ghost use Rattle.hazbultra_channel.specs.Ends.{EndMade, EndWent, IsAtRest, IsGoing, IsSending, OnlyTold, WasTold};
+ghost use Rattle.hazbultra_channel.specs.declared.codes.TheConstants.{AGAIN, BAD_HANDLE, DONE};
+
+use crate::codes::{AGAIN, BAD_HANDLE, DONE};
+use crate::handle::End;
+use crate::paying::pay_some;
+use crate::thing::{Thing, WakeOut};
+use mb_channel::{Departing, Held, Sender, Stored};
+use std::mem;
+
+/// Closes the channel, for ever. The call returns `DONE` if that is done, `AGAIN` if it has to be called again, and
+/// `BAD_HANDLE` if the handle leads to no sender.
+#[unsafe(no_mangle)]
+pub extern "C" fn hz_channel_close(sender: &mut End, wake: &mut WakeOut) -> u32
+    ensures told { result ≢ BAD_HANDLE
+        → EndWent (OnlyTold wake.new.threads) sender.old.block.thing sender.new.block.thing }
+    ensures done { result ≡ DONE → EndMade WasTold sender.new.block.thing }
+    ensures rest { result ≢ BAD_HANDLE → wake.new.owes ≡ 0
+        → EndMade IsAtRest sender.new.block.thing }
+    ensures bad { result ≡ BAD_HANDLE → EndMade IsSending sender.old.block.thing → ⊥ }
+    ensures same { result ≡ BAD_HANDLE → sender.new.block.thing ≡ sender.old.block.thing }
+    ensures still { result ≢ BAD_HANDLE → EndMade IsSending sender.new.block.thing }
+{
+    wake.threads = 0;
+    wake.owes = 0;
+    let Some(opened) = sender.lend() else {
+        return BAD_HANDLE;
+    };
+    let Thing::OfEnd(stored) = mem::replace(opened, Thing::OfNothing) else {
+        return BAD_HANDLE;
+    };
+    let (held, code) = match stored.take() {
+        Held::OfSender(sender) => close(sender, wake),
+        Held::OfOwing(owing) => (pay_some(Held::OfOwing(owing), wake), AGAIN),
+        other => (other, BAD_HANDLE),
+    };
+    *opened = Thing::OfEnd(Stored::new(held));
+    code
+}
+
+fn close(sender: Sender<u64>, wake: &mut WakeOut) -> (Held<u64>, u32)
+    requires { (wake.old.threads ≡ 0) × (wake.old.owes ≡ 0) }
+    ensures told { OnlyTold wake.new.threads (held.OfSender sender) result.0 }
+    ensures done { result.1 ≡ DONE → WasTold result.0 }
+    ensures rest { wake.new.owes ≡ 0 → IsAtRest result.0 }
+    ensures code { result.1 ≢ BAD_HANDLE }
+    ensures sending { IsSending result.0 }
+{
+    match sender.try_close() {
+        Ok((sender, true)) => (Held::OfSender(sender), DONE),
+        Ok((sender, false)) => (Held::OfSender(sender), AGAIN),
+        Err(owing) => (pay_some(Held::OfOwing(owing), wake), AGAIN),
+    }
+}
+
+/// Lets an end go for good. The call returns `DONE` if that is done: the end owed nothing, and the handle leads to
+/// nothing. It returns `AGAIN` if it has to be called again, and `BAD_HANDLE` if the handle leads to no end. An end
+/// that has to be freed again can do nothing else.
+#[unsafe(no_mangle)]
+pub extern "C" fn hz_channel_free(end: &mut End, wake: &mut WakeOut) -> u32
+    ensures done { result ≡ DONE → (end.new.block.thing ≡ None)
+        × EndMade IsAtRest end.old.block.thing }
+    ensures again { result ≡ AGAIN
+        → EndWent (IsGoing wake.new.threads) end.old.block.thing end.new.block.thing }
+    ensures rest { result ≡ AGAIN → wake.new.owes ≡ 0 → EndMade IsAtRest end.new.block.thing }
+    ensures codes { (result ≡ DONE) ⊎ (result ≡ AGAIN) ⊎ (result ≡ BAD_HANDLE) }
+{
+    wake.threads = 0;
+    wake.owes = 0;
+    let Some(mut opened) = end.take() else {
+        return BAD_HANDLE;
+    };
+    let Thing::OfEnd(stored) = mem::replace(&mut *opened, Thing::OfNothing) else {
+        return BAD_HANDLE;
+    };
+    match go(stored.take(), wake) {
+        None => DONE,
+        Some(held) => {
+            *opened = Thing::OfEnd(Stored::new(held));
+            end.give(opened);
+            AGAIN
+        }
+    }
+}
+
+/// A step of an end that goes. `None` once it has gone.
+fn go(held: Held<u64>, wake: &mut WakeOut) -> Option<Held<u64>>
+    requires { (wake.old.threads ≡ 0) × (wake.old.owes ≡ 0) }
+    ensures gone { IfNone result (IsAtRest held) }
+    ensures going { IfSome result (IsGoing wake.new.threads held) }
+    ensures rest { wake.new.owes ≡ 0 → IfSome result IsAtRest }
+{
+    match held {
+        Held::OfSender(sender) => match sender.try_retire() {
+            Ok(departing) => depart(departing, wake),
+            Err(sender) => Some(Held::OfSender(sender)),
+        },
+        Held::OfReceiver(receiver) => depart(receiver.retire(), wake),
+        Held::OfDeparting(departing) => depart(departing, wake),
+        owing => Some(pay_some(owing, wake)),
+    }
+}
+
+fn depart(departing: Departing<u64>, wake: &mut WakeOut) -> Option<Held<u64>>
+    requires { (wake.old.threads ≡ 0) × (wake.old.owes ≡ 0) }
+    ensures going { IfSome result (OnlyTold wake.new.threads (held.OfDeparting departing)) }
+    ensures rest { wake.new.owes ≡ 0 → IfSome result IsAtRest }
+{
+    match departing.try_go() {
+        Ok(None) => None,
+        Ok(Some(departing)) => Some(Held::OfDeparting(departing)),
+        Err(cutter) => Some(pay_some(Held::OfCutter(cutter), wake)),
+    }
+}

@@ -1,0 +1,115 @@
+//! What an end owes, paid in small steps.
+ghost use Rattle.std.specs.Prelude.{◌≡◌, ◌≢◌, ◌⊎◌, None};
+ghost use Rattle.mb_channel.specs.Wakes.{one_if};
+ghost use Rattle.mb_channel.specs.declared.held.Held.TheVariants as held;
+ghost use Rattle.hazbultra_channel.specs.Ends.{EndMade, EndWent, HasPaid, IsAtRest};
+ghost use Rattle.hazbultra_channel.specs.declared.codes.TheConstants.{AGAIN, BAD_HANDLE, DONE};
+
+use crate::codes::{AGAIN, BAD_HANDLE, DONE};
+use crate::handle::End;
+use crate::thing::{Thing, WakeOut};
+use mb_channel::{Cutter, Held, Leaving, Owing, Stored};
+use std::mem;
+
+/// Pays what the end owes, in a few accesses. If it sleeps, it stops waiting. The call returns `DONE` if the end owes
+/// nothing any more, `AGAIN` if it still does, and `BAD_HANDLE` if the handle leads to no end.
+#[unsafe(no_mangle)]
+pub extern "C" fn hz_channel_pay(end: &mut End, wake: &mut WakeOut) -> u32
+    ensures paid { result ≢ BAD_HANDLE
+        → EndWent (HasPaid wake.new.threads) end.old.block.thing end.new.block.thing }
+    ensures done { result ≡ DONE → EndMade IsAtRest end.new.block.thing }
+    ensures codes { (result ≡ DONE) ⊎ (result ≡ AGAIN) ⊎ (result ≡ BAD_HANDLE) }
+{
+    wake.threads = 0;
+    wake.owes = 0;
+    let Some(opened) = end.lend() else {
+        return BAD_HANDLE;
+    };
+    let Thing::OfEnd(stored) = mem::replace(opened, Thing::OfNothing) else {
+        return BAD_HANDLE;
+    };
+    *opened = Thing::OfEnd(Stored::new(pay_some(stored.take(), wake)));
+    if wake.owes == 0 { DONE } else { AGAIN }
+}
+
+/// Pays what an end owes, in a few accesses.
+#[cold]
+#[inline(never)]
+pub(crate) fn pay_some(held: Held<u64>, wake: &mut WakeOut) -> Held<u64>
+    ensures paid { HasPaid wake.new.threads held result }
+    ensures rest { wake.new.owes ≡ 0 → IsAtRest result }
+{
+    tell(wake, 0, false, false);
+    match held {
+        Held::OfOwing(owing) => pay_owing(owing, wake),
+        Held::OfLeaving(leaving) => pay_leaving(leaving, wake),
+        Held::OfAsleep(asleep) => pay_leaving(asleep.give_up(), wake),
+        Held::OfCutter(cutter) => pay_cutter(cutter, wake),
+        rest => rest,
+    }
+}
+
+fn tell(wake: &mut WakeOut, place: usize, woken: bool, owes: bool)
+    ensures threads { wake.new.threads ≡ one_if woken }
+    ensures owes { wake.new.owes ≡ one_if owes }
+{
+    *wake = WakeOut {
+        place: place as u64,
+        threads: u32::from(woken),
+        owes: u32::from(owes),
+    };
+}
+
+fn pay_owing(owing: Owing<u64>, wake: &mut WakeOut) -> Held<u64>
+    ensures paid { HasPaid wake.new.threads (held.OfOwing owing) result }
+    ensures rest { wake.new.owes ≡ 0 → IsAtRest result }
+{
+    let place = owing.place();
+    let (woken, rest) = owing.pay_some();
+    match rest {
+        Ok(sender) => {
+            tell(wake, place, woken, false);
+            Held::OfSender(sender)
+        }
+        Err(owing) => {
+            tell(wake, place, woken, true);
+            Held::OfOwing(owing)
+        }
+    }
+}
+
+fn pay_leaving(leaving: Leaving<u64>, wake: &mut WakeOut) -> Held<u64>
+    ensures paid { HasPaid wake.new.threads (held.OfLeaving leaving) result }
+    ensures rest { wake.new.owes ≡ 0 → IsAtRest result }
+{
+    let place = leaving.place();
+    let (woken, rest) = leaving.pay_some();
+    match rest {
+        Ok(receiver) => {
+            tell(wake, place, woken, false);
+            Held::OfReceiver(receiver)
+        }
+        Err(leaving) => {
+            tell(wake, place, woken, true);
+            Held::OfLeaving(leaving)
+        }
+    }
+}
+
+fn pay_cutter(cutter: Cutter<u64>, wake: &mut WakeOut) -> Held<u64>
+    ensures paid { HasPaid wake.new.threads (held.OfCutter cutter) result }
+    ensures rest { wake.new.owes ≡ 0 → IsAtRest result }
+{
+    let place = cutter.place();
+    let (woken, rest) = cutter.pay_some();
+    match rest {
+        Ok(departing) => {
+            tell(wake, place, woken, false);
+            Held::OfDeparting(departing)
+        }
+        Err(cutter) => {
+            tell(wake, place, woken, true);
+            Held::OfCutter(cutter)
+        }
+    }
+}

@@ -1,8 +1,0 @@
-use Rattle.std.proofs.Common.{◌≡◌}
-use Rattle.mb_channel.specs.Ends.{IsSame, got_by, sent_by}
-use Rattle.mb_channel.proofs.channel.Channel.cut_all.Given as goal
-
-abbrev pub invariant-loop : goal.invariant-loop
-invariant-loop g l =
-    (goal.iterator-loop g).can_next l.iterator' × (goal.iterator-loop g).is_finite l.iterator'
-    × IsSame l.initial.end l.end × (sent_by l.end ≡ sent_by l.initial.end) × (got_by l.end ≡ got_by l.initial.end)

@@ -1,5 +1,0 @@
-use Rattle.mb_channel.specs.Ends.{IsEndOf}
-use Rattle.mb_channel.proofs.sleep_tests.past_the_last.Given as goal
-
-abbrev pub invariant-loop : goal.invariant-loop
-invariant-loop g l = IsEndOf l.channel l.receiver.end

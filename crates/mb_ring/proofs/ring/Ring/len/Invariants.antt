@@ -1,0 +1,14 @@
+use Rattle.std.proofs.Common.{◌≡◌, ◌≤◌}
+use Rattle.mb_ring.specs.Vocabulary.{blinded, calm, found_empty, found_full, marked_to}
+use Rattle.mb_ring.proofs.ring.Ring.len.Given as goal
+
+abbrev pub invariant-loop : goal.invariant-loop
+invariant-loop g l =
+    (goal.iterator-loop g).can_next l.iterator' × (goal.iterator-loop g).is_finite l.iterator'
+    × (l.pass.seat.table_id ≡ l.initial.pass.seat.table_id) × (l.pass.seat.id ≡ l.initial.pass.seat.id)
+    × (blinded l.pass.seat.me.0 ≡ calm l.initial.pass.seat.me.0) × (l.pass.seat.me.1 ≡ l.initial.pass.seat.me.1)
+    × (marked_to l.initial.pass.seat.me.0 ≤ marked_to l.pass.seat.me.0)
+    × (found_empty l.initial.pass.seat.me.0 ≤ found_empty l.pass.seat.me.0)
+    × (found_full l.initial.pass.seat.me.0 ≤ found_full l.pass.seat.me.0)
+    × (l.pass.seat.me.0.sight.cut ≡ l.initial.pass.seat.me.0.sight.cut)
+    × (l.pass.seat.me.0.over ≡ l.initial.pass.seat.me.0.over)
