@@ -1,7 +1,8 @@
 /* The sleep of the channel's receivers, made of the proved calls and of POSIX threads. Link this file, or functions of your own
  * with the same names: all are weak.
  * A receiver that is to sleep stands in a list with its place, and then looks once more. So it meets a token that was given
- * before, and a wake that finds nobody at its place in the list may be forgotten. */
+ * before, and a wake that finds nobody at its place in the list may be forgotten. A token can be taken by any receiver that sleeps
+ * at its place. So one that is woken, and goes without a token, wakes another. */
 #undef _POSIX_C_SOURCE
 #define _POSIX_C_SOURCE 200809L
 #include "hazbultra_channel.h"
@@ -49,9 +50,9 @@ static bool take_out(hz_sleepers *all, const struct sleeper *self, uint64_t plac
     return found;
 }
 
-/* A receiver leaves the list. If it was woken while it did not sleep, another one has to be. */
-static void leave(hz_sleepers *all, const struct sleeper *self) {
-    if (!take_out(all, self, 0))
+/* A receiver leaves the list. If somebody took it out, for a token that it may not have taken, another one has to be woken. */
+static void leave(hz_sleepers *all, const struct sleeper *self, bool has_token) {
+    if (!take_out(all, self, 0) && !has_token)
         take_out(all, NULL, self->place);
 }
 
@@ -64,25 +65,15 @@ static void enlist(hz_sleepers *all, struct sleeper *self, uint64_t place) {
     pthread_mutex_unlock(&all->lock);
 }
 
-/* Sleeps until somebody takes it out of the list, but 10 ms at most: then it looks again, in case a wake went to one that did not
- * sleep. False if the deadline came first. */
+/* Sleeps until somebody takes it out of the list. False if the deadline came first. */
 static bool sleep_by(hz_sleepers *all, struct sleeper *self, const struct timespec *deadline) {
-    struct timespec until;
-    clock_gettime(CLOCK_MONOTONIC, &until);
-    until.tv_nsec += 10000000;
-    until.tv_sec += until.tv_nsec / 1000000000;
-    until.tv_nsec %= 1000000000;
-    bool last = deadline && (deadline->tv_sec < until.tv_sec ||
-                             (deadline->tv_sec == until.tv_sec && deadline->tv_nsec <= until.tv_nsec));
     int late = 0;
     pthread_mutex_lock(&all->lock);
     while (self->listed && !late)
-        late = pthread_cond_timedwait(&self->woken, &all->lock, last ? deadline : &until);
+        late = deadline ? pthread_cond_timedwait(&self->woken, &all->lock, deadline) : pthread_cond_wait(&self->woken, &all->lock);
     bool woken = !self->listed;
     pthread_mutex_unlock(&all->lock);
-    if (!woken && !last)
-        leave(all, self);
-    return woken || !last;
+    return woken;
 }
 
 /* Wakes whom the call told to wake, and pays what the end still owes. */
@@ -108,26 +99,26 @@ static uint32_t finish(uint32_t (*call)(hz_end *, hz_wake *), hz_end *end, hz_sl
 }
 
 static uint32_t receive(hz_receiver *from, struct sleeper *self, uint64_t *value, const struct timespec *deadline) {
-    bool listed = false; /* whether it came into the list, and has not slept there */
+    bool was_listed = false, is_new = false; /* is_new: it came into the list, and has not slept there */
     for (unsigned tries = 0;;) {
         hz_wake told = {0, 0, 0};
         uint32_t code = hz_channel_receive(&from->end, value, &told);
-        uint64_t place = told.place;
-        settle(&from->end, from->sleepers, &told);
-        if (listed && code != HZ_SLEEPS)
-            leave(from->sleepers, self);
-        if (code == HZ_SLEEPS && !listed) {
-            enlist(from->sleepers, self, place);
+        if (was_listed && code != HZ_SLEEPS)
+            leave(from->sleepers, self, code == HZ_TOOK && !is_new);
+        was_listed = code == HZ_SLEEPS;
+        if (code == HZ_SLEEPS && !is_new) {
+            enlist(from->sleepers, self, told.place);
         } else if (code == HZ_SLEEPS && !sleep_by(from->sleepers, self, deadline)) {
             finish(hz_channel_pay, &from->end, from->sleepers);
-            leave(from->sleepers, self);
+            leave(from->sleepers, self, false);
             return HZ_NOTHING;
-        } else if (code == HZ_AGAIN) {
-            pause_after(tries++);
-        } else if (code != HZ_SLEEPS) {
-            return code;
         }
-        listed = code == HZ_SLEEPS && !listed;
+        is_new = was_listed && !is_new;
+        settle(&from->end, from->sleepers, &told);
+        if (code == HZ_AGAIN)
+            pause_after(tries++);
+        else if (code != HZ_SLEEPS)
+            return code;
     }
 }
 

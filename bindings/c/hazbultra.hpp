@@ -1,15 +1,17 @@
-/* Owning C++17 types over hazbultra.h, whose head says what a caller owes. A value here owns what its handle leads to. It can
- * be moved and cannot be copied, and its destructor frees what it owns. So rules 1 and 4 are kept, and of rule 2 all but that a
- * setup is initialised. The others are yours: above all, that a value is in one call at a time (rule 3).
+/* Owning C++17 types over hazbultra_channel.h and hazbultra.h, whose heads say what a caller owes. A value here owns what its
+ * handle leads to. It can be moved and cannot be copied, and its destructor frees what it owns. So of the mailbox's rules, 1 and 4
+ * are kept, and 2 but for a setup that is not initialised. Of the channel's, 1 and 2 are. The others are yours: above all, that a
+ * value is in one call at a time (rule 3 of both).
  *
  * After a value was moved from, its calls return HZ_BAD_HANDLE, or throw it.
  */
 #ifndef HAZBULTRA_HPP
 #define HAZBULTRA_HPP
 
-#include "hazbultra.h"
+#include "hazbultra_channel.h"
 
 #include <array>
+#include <chrono>
 #include <stdexcept>
 #include <utility>
 #include <vector>
@@ -28,11 +30,98 @@ inline void expect_done(uint32_t code) {
         throw refusal(code);
 }
 
-/* What a poll or take returned: value is an item at HZ_TOOK, and a consumer's number at HZ_LOST. */
+/* What a receive, poll or take returned: value is what it took at HZ_TOOK, and a consumer's number at HZ_LOST. */
 struct answer {
     hz_code code;
     uint64_t value;
 };
+
+/* ---- The channel. */
+
+/* An end of a channel: a sender or a receiver. */
+template <class End, uint32_t (*make)(End *, End *), uint32_t (*free_end)(End *)> class channel_end {
+  public:
+    channel_end() = default;
+    channel_end(channel_end &&other) noexcept : end(std::exchange(other.end, End{})) {}
+    channel_end &operator=(channel_end &&other) noexcept {
+        End moved = std::exchange(other.end, End{});
+        free_end(&end);
+        end = moved;
+        return *this;
+    }
+    ~channel_end() { free_end(&end); }
+    /* Whether it leads to a channel. */
+    explicit operator bool() const noexcept { return end.end.full; }
+
+  protected:
+    void clone_into(channel_end &other) { expect_done(make(&end, &other.end)); }
+    End end = {};
+};
+
+/* It sends. The channel is closed once its last sender is destroyed. */
+class sender : public channel_end<hz_sender, hz_sender_clone, hz_sender_free> {
+  public:
+    /* Another sender of the same channel. It throws HZ_NO_MEMORY or HZ_CROWDED. */
+    sender clone() {
+        sender made;
+        clone_into(made);
+        return made;
+    }
+    /* Returns HZ_DONE. Else the value was not sent: HZ_CLOSED, HZ_NO_MEMORY or HZ_CROWDED. */
+    [[nodiscard]] hz_code send(uint64_t value) noexcept { return hz_code(hz_send(&end, value)); }
+    /* The same, or HZ_AGAIN: it does not wait while other ends are always first. */
+    [[nodiscard]] hz_code try_send(uint64_t value) noexcept { return hz_code(hz_try_send(&end, value)); }
+    /* Closes the channel, for ever. */
+    hz_code close() noexcept { return hz_code(hz_close(&end)); }
+
+  private:
+    friend std::pair<sender, class receiver> channel();
+};
+
+/* It receives. */
+class receiver : public channel_end<hz_receiver, hz_receiver_clone, hz_receiver_free> {
+  public:
+    /* Another receiver of the same channel. It throws HZ_NO_MEMORY or HZ_CROWDED. */
+    receiver clone() {
+        receiver made;
+        clone_into(made);
+        return made;
+    }
+    /* Sleeps until there is a value. Its code is HZ_TOOK, HZ_CLOSED or HZ_CROWDED. */
+    [[nodiscard]] answer recv() noexcept { return recv_by(nullptr); }
+    /* The same, or HZ_NOTHING: the deadline came first. */
+    [[nodiscard]] answer recv_until(std::chrono::steady_clock::time_point deadline) noexcept {
+        auto since = std::chrono::nanoseconds(deadline.time_since_epoch()).count();
+        timespec at = {time_t(since / 1000000000), long(since % 1000000000)};
+        return recv_by(&at);
+    }
+    [[nodiscard]] answer recv_for(std::chrono::nanoseconds time) noexcept {
+        return recv_until(std::chrono::steady_clock::now() + time);
+    }
+    /* It does not sleep. HZ_NOTHING: at a moment of the call nothing waited. HZ_AGAIN: that is not known. */
+    [[nodiscard]] answer try_recv() noexcept {
+        answer found = {HZ_BAD_HANDLE, 0};
+        found.code = hz_code(hz_try_recv(&end, &found.value));
+        return found;
+    }
+
+  private:
+    friend std::pair<sender, receiver> channel();
+    answer recv_by(const timespec *deadline) noexcept {
+        answer found = {HZ_BAD_HANDLE, 0};
+        found.code = hz_code(hz_recv_by(&end, &found.value, deadline));
+        return found;
+    }
+};
+
+/* A new channel. It throws HZ_NO_MEMORY. */
+inline std::pair<sender, receiver> channel() {
+    std::pair<sender, receiver> made;
+    expect_done(hz_channel(&made.first.end, &made.second.end));
+    return made;
+}
+
+/* ---- The mailbox. */
 
 /* A handle with one owner. */
 class owner {

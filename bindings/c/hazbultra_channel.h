@@ -142,7 +142,11 @@ uint32_t hz_channel_send(hz_end *sender, uint64_t value, hz_wake *wake);
  * woken, call again. Until then the receiver can do nothing else but hz_channel_pay and hz_channel_free, which end its sleep.
  * HZ_AGAIN: a value is just being sent, another was first, there is no memory, or the receiver still owed something. HZ_CLOSED: no
  * value can come any more. HZ_CROWDED. HZ_BAD_HANDLE: the handle leads to no receiver, and stays as it was. value is written at
- * HZ_TOOK only. */
+ * HZ_TOOK only.
+ *
+ * Suppose that somebody woke a thread, and its receiver does not go on sleeping. Then the token may still be in the list, beside
+ * another receiver that sleeps. So the thread has to wake another one at its place. It need not if it was woken before a call that
+ * returned HZ_TOOK, since that call took a token. */
 HZ_CHECKED HZ_NONNULL
 uint32_t hz_channel_receive(hz_end *receiver, uint64_t *value, hz_wake *wake);
 

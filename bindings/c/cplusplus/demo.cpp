@@ -1,4 +1,5 @@
-// A producer and two consumers in threads, by the types of hazbultra.hpp: who owns a handle, and what a refusal says.
+// Workers on a channel, and a producer and two consumers of a mailbox, by the types of hazbultra.hpp: who owns a handle, and
+// what a refusal says.
 #include <hazbultra.hpp>
 
 #include <cstdio>
@@ -15,7 +16,7 @@ template <class T> constexpr bool can_only_be_moved() {
     return !std::is_copy_constructible_v<T> && !std::is_copy_assignable_v<T> && std::is_nothrow_move_constructible_v<T>
         && std::is_nothrow_move_assignable_v<T>;
 }
-static_assert(can_only_be_moved<hub>() && can_only_be_moved<producer>() && can_only_be_moved<consumer>()
+static_assert(can_only_be_moved<sender>() && can_only_be_moved<receiver>() && can_only_be_moved<hub>() && can_only_be_moved<producer>() && can_only_be_moved<consumer>()
               && can_only_be_moved<report>());
 
 template <class Call> static refusal refused(Call call) {
@@ -29,6 +30,34 @@ template <class Call> static refusal refused(Call call) {
 }
 
 constexpr uint64_t ITEMS = 1000;
+
+// Receives until the channel is closed, and returns the sum. It sleeps meanwhile.
+static uint64_t received_by(receiver jobs) {
+    for (uint64_t sum = 0;;) {
+        answer found = jobs.recv();
+        if (found.code == HZ_CLOSED)
+            return sum;
+        EXPECT(found.code == HZ_TOOK);
+        sum += found.value;
+    }
+}
+
+static void channels() {
+    auto [jobs, worker] = channel();
+    EXPECT(worker.try_recv().code == HZ_NOTHING && worker.recv_for(std::chrono::milliseconds(1)).code == HZ_NOTHING);
+    uint64_t sums[2];
+    std::thread workers[2] = {std::thread([&sums, it = worker.clone()]() mutable { sums[0] = received_by(std::move(it)); }),
+                              std::thread([&sums, it = std::move(worker)]() mutable { sums[1] = received_by(std::move(it)); })};
+    EXPECT(!worker && worker.recv().code == HZ_BAD_HANDLE && refused([&] { worker.clone(); }).code == HZ_BAD_HANDLE);
+    sender other = jobs.clone();
+    for (uint64_t job = 1; job <= ITEMS; job++)
+        EXPECT((job % 2 ? jobs : other).send(job) == HZ_DONE);
+    jobs = std::move(other); // the first sender is freed
+    EXPECT(jobs && !other && jobs.try_send(0) == HZ_DONE && jobs.close() == HZ_DONE && jobs.send(0) == HZ_CLOSED);
+    for (auto &it : workers)
+        it.join();
+    EXPECT(sums[0] + sums[1] == ITEMS * (ITEMS + 1) / 2);
+}
 
 // Takes all that it wins of lane 0, and returns the sum.
 static uint64_t sum_of(consumer &one) {
@@ -93,7 +122,8 @@ int main() {
     hz_setup bad = exchange_setup(1, 1, 1);
     bad.last = false;
     EXPECT(std::strcmp(refused([&] { hub made(bad); }).what(), "HZ_BAD_PAIRS") == 0);
+    channels();
     threads();
     moves();
-    std::puts("each item was taken once, and each handle had one owner");
+    std::puts("each value and item was taken once, and each handle had one owner");
 }
