@@ -7,7 +7,7 @@ import subprocess
 from rooms import Room
 
 TOP = os.path.dirname(os.path.dirname(os.path.abspath(__file__)))
-OWN = "sh env sed grep awk tee mktemp date dirname rm cat tail".split()
+OWN = "sh env sed grep awk tee mktemp date dirname rm cat tail nice".split()
 FILES = """mailbox examples/script bindings/rust/tests/packing.sh bindings/rust/tests/examples.sh bindings/rust_stream/test.sh
 bindings/c/Makefile ci/prebuilt.sh ci/map.sh""".split()
 # What a program does that is refused a thread.
@@ -62,7 +62,7 @@ class Test(Room):
         for told, counts in (("3 passed, 2 failed", (passed + 2, 2, 0)), ("3 passed, 0 failed", (passed + 2, 1, 0))):
             self.tool("make", f"echo {told}; exit 1")
             self.assertEqual(self.run_it()[:2], (1, counts))
-        self.assertNotIn("rt ci", self.run_it("--all")[2])
+        self.assertNotIn("proofs", self.run_it("--all")[2])
 
     def test_a_third_thread_that_is_not_refused_fails(self):
         for wrong in (REFUSED.replace("2)", "3)"), REFUSED.replace("exit 1", "kill -9 $$"), "exit 1"):

@@ -1,56 +1,8 @@
 /* Tests which codes the calls of hazbultra.h return. Each allocation is refused in turn, by a heap in place of heap.c. */
 #include "hazbultra.h"
+#include "refusing.h"
 
-#include <stdio.h>
-#include <stdlib.h>
 #include <string.h>
-
-#define EXPECT(so) ((so) ? (void)0 : fail(__LINE__, #so))
-
-static void fail(int line, const char *what) {
-    fprintf(stderr, "answers.c:%d: not so: %s\n", line, what);
-    exit(1);
-}
-
-struct tried {
-    bool there;
-    void *at;
-};
-
-struct tried rattle_alloc(size_t size, size_t align);
-struct tried rattle_realloc(void *at, size_t kept, size_t size, size_t align);
-void rattle_dealloc(void *at);
-
-static long blocks;         /* how many blocks are allocated now */
-static long granted = -1;   /* how many allocations succeed before one is refused; if below 0, none is */
-static char nothing;
-
-static bool is_refused(void) {
-    return granted >= 0 && granted-- == 0;
-}
-
-struct tried rattle_alloc(size_t size, size_t align) {
-    if (is_refused())
-        return (struct tried){false, &nothing};
-    blocks++;
-    void *at = malloc(size ? size : align);
-    EXPECT(at);
-    return (struct tried){true, at};
-}
-
-struct tried rattle_realloc(void *at, size_t kept, size_t size, size_t align) {
-    (void)kept;
-    if (is_refused())
-        return (struct tried){false, &nothing};
-    void *moved = realloc(at, size ? size : align);
-    EXPECT(moved);
-    return (struct tried){true, moved};
-}
-
-void rattle_dealloc(void *at) {
-    blocks--;
-    free(at);
-}
 
 static const uint8_t SEED[32] = {1};
 
