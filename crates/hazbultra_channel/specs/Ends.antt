@@ -1,5 +1,5 @@
 -- What a call does to the end that a handle leads to.
-use Rattle.std.specs.Prelude.{◌≡◌, ◌⊎◌, ℕ, Option, Some}
+use Rattle.std.specs.Prelude.{◌≡◌, ◌⊎◌, ◌≤◌, ℕ, Option, Some}
 use Rattle.mb_channel.specs.declared.held.Held.{Held}
 use Rattle.mb_channel.specs.declared.held.Held.TheVariants as held
 use Rattle.mb_channel.specs.Ends.{AreOfOneChannel, IsBehind, IsFresh, IsSame, Standing, got_by, log_of, stand_of}
@@ -9,6 +9,7 @@ use Rattle.mb_channel.specs.Wakes.{Tells, Wakes, wakes_of, wakes_with}
 use Rattle.hazbultra_channel.specs.declared.codes.TheConstants.{CLOSED, CROWDED, NO_MEMORY}
 use Rattle.hazbultra_channel.specs.declared.thing.Thing.{Thing}
 use Rattle.hazbultra_channel.specs.declared.thing.Thing.TheVariants.{OfEnd}
+use Rattle.hazbultra_channel.specs.declared.thing.WakeOut.{WakeOut}
 
 -- where the end is, and what it did
 abbrev pub stand_held : {T : Type 0} → Held T → Standing T
@@ -45,6 +46,10 @@ abbrev pub IsAsleep : {T : Type 0} → Held T → Type 0
 IsAsleep (held.OfAsleep a) = Unit {0}
 IsAsleep _ = ⊥
 
+-- any end, whatever it owes
+abbrev pub IsEnd : {T : Type 0} → Held T → Type 0
+IsEnd h = Unit {0}
+
 -- a sender that does not go, with or without something owed
 abbrev pub IsSending : {T : Type 0} → Held T → Type 0
 IsSending (held.OfSender s) = Unit {0}
@@ -64,6 +69,13 @@ WasTold (held.OfSender s) = IsBehind s.end
 WasTold (held.OfReceiver r) = IsBehind r.end
 WasTold _ = ⊥
 
+-- a sender that was told so, and a receiver
+abbrev pub SendsInVain : {T : Type 0} → Held T → Type 0
+SendsInVain h = IsSending h × WasTold h
+
+abbrev pub ReceivesInVain : {T : Type 0} → Held T → Type 0
+ReceivesInVain h = IsReceiving h × WasTold h
+
 -- nothing was sent or received, and the caller was told to wake n threads
 abbrev pub OnlyTold : {T : Type 0} → ℕ → Held T → Held T → Type 0
 OnlyTold n h k = NoMore (stand_held h) (stand_held k) × Tells n (wakes_held h) (wakes_held k)
@@ -79,13 +91,24 @@ abbrev pub EndWent : (Held ℕ → Held ℕ → Type 0) → Option Thing → Opt
 EndWent R (Some (OfEnd s)) (Some (OfEnd t)) = R s.held t.held
 EndWent R _ _ = ⊥
 
+-- ---- what a caller is told to do
+-- one thread to wake at most, and something owed or not
+abbrev pub IsWake : WakeOut → Type 0
+IsWake w = (w.threads ≤ 1) × (w.owes ≤ 1)
+
+-- no thread to wake, and nothing owed
+abbrev pub IsNoWake : WakeOut → Type 0
+IsNoWake w = (w.threads ≡ 0) × (w.owes ≡ 0)
+
 -- the code of a refusal
 abbrev pub IsRefusal : ℕ → Type 0
 IsRefusal code = (code ≡ NO_MEMORY) ⊎ (code ≡ CLOSED) ⊎ (code ≡ CROWDED)
 
--- it paid: it did nothing else, its caller was told to wake n threads, and it still sends, receives or goes
+-- it paid: it did nothing else, its caller was told to wake n threads, and it still sends, receives or goes. It does not
+-- sleep
 abbrev pub HasPaid : {T : Type 0} → ℕ → Held T → Held T → Type 0
 HasPaid n h k = OnlyTold n h k × (IsSending h → IsSending k) × (IsReceiving h → IsReceiving k)
+    × (IsAsleep k → ⊥)
 
 -- ---- ends that are made
 -- the handles lead to a sender and a receiver of one channel, which did nothing yet
@@ -116,6 +139,12 @@ abbrev pub GotNothing : {T : Type 0} → Held T → Held T → Type 0
 GotNothing (held.OfReceiver r) (held.OfReceiver q) = IsSame r.end q.end × (got_by q.end ≡ got_by r.end)
 GotNothing h k = k ≡ h
 
+-- it sleeps. A receiver that did not sleep before looked, and nothing waited at that moment
+abbrev pub FellAsleep : {T : Type 0} → Held T → Held T → Type 0
+FellAsleep (held.OfReceiver r) (held.OfAsleep a) = SawEmpty (stand_of r.end) (stand_with a.debtor)
+FellAsleep (held.OfAsleep a) (held.OfAsleep b) = Unit {0}
+FellAsleep h k = ⊥
+
 -- it looked, and nothing waited at that moment
 abbrev pub FoundNothing : {T : Type 0} → Held T → Held T → Type 0
 FoundNothing (held.OfReceiver r) (held.OfReceiver q) = SawEmpty (stand_of r.end) (stand_of q.end)
@@ -123,7 +152,7 @@ FoundNothing (held.OfReceiver r) (held.OfReceiver q) = SawEmpty (stand_of r.end)
 FoundNothing h k = ⊥
 
 -- ---- an end that goes
--- it sent and received nothing, and its caller was told to wake n threads
+-- it sent and received nothing, and its caller was told to wake n threads. It does not sleep
 abbrev pub IsGoing : {T : Type 0} → ℕ → Held T → Held T → Type 0
 IsGoing n h k = (sent_in (stand_held k) ≡ sent_in (stand_held h)) × (got_in (stand_held k) ≡ got_in (stand_held h))
-    × Tells n (wakes_held h) (wakes_held k)
+    × Tells n (wakes_held h) (wakes_held k) × (IsAsleep k → ⊥)

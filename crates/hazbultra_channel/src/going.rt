@@ -1,7 +1,8 @@
 //! The calls that close a channel, and let an end go.
-ghost use Rattle.std.specs.Prelude.{◌≡◌, ◌≢◌, ◌⊎◌, IfNone, IfSome, None};
+ghost use Rattle.std.specs.Prelude.{◌≡◌, ◌≢◌, ◌↔◌, ◌⊎◌, IfNone, IfSome, None};
 ghost use Rattle.mb_channel.specs.declared.held.Held.TheVariants as held;
-ghost use Rattle.hazbultra_channel.specs.Ends.{EndMade, EndWent, IsAtRest, IsGoing, IsSending, OnlyTold, WasTold};
+ghost use Rattle.hazbultra_channel.specs.Ends.{EndMade, EndWent, IsAsleep, IsAtRest, IsEnd, IsGoing};
+ghost use Rattle.hazbultra_channel.specs.Ends.{IsNoWake, IsSending, IsWake, OnlyTold, WasTold};
 ghost use Rattle.hazbultra_channel.specs.declared.codes.TheConstants.{AGAIN, BAD_HANDLE, DONE};
 
 use crate::codes::{AGAIN, BAD_HANDLE, DONE};
@@ -20,9 +21,12 @@ pub extern "C" fn hz_channel_close(sender: &mut End, wake: &mut WakeOut) -> u32
     ensures done { result ≡ DONE → EndMade WasTold sender.new.block.thing }
     ensures rest { result ≢ BAD_HANDLE → wake.new.owes ≡ 0
         → EndMade IsAtRest sender.new.block.thing }
-    ensures bad { result ≡ BAD_HANDLE → EndMade IsSending sender.old.block.thing → ⊥ }
+    ensures bad { (result ≡ BAD_HANDLE) ↔ (EndMade IsSending sender.old.block.thing → ⊥) }
     ensures same { result ≡ BAD_HANDLE → sender.new.block.thing ≡ sender.old.block.thing }
     ensures still { result ≢ BAD_HANDLE → EndMade IsSending sender.new.block.thing }
+    ensures codes { (result ≡ DONE) ⊎ (result ≡ AGAIN) ⊎ (result ≡ BAD_HANDLE) }
+    ensures wake { IsWake wake.new }
+    ensures no_wake { result ≡ BAD_HANDLE → IsNoWake wake.new }
 {
     wake.threads = 0;
     wake.owes = 0;
@@ -46,8 +50,9 @@ fn close(sender: Sender<u64>, wake: &mut WakeOut) -> (Held<u64>, u32)
     ensures told { OnlyTold wake.new.threads (held.OfSender sender) result.0 }
     ensures done { result.1 ≡ DONE → WasTold result.0 }
     ensures rest { wake.new.owes ≡ 0 → IsAtRest result.0 }
-    ensures code { result.1 ≢ BAD_HANDLE }
+    ensures codes { (result.1 ≡ DONE) ⊎ (result.1 ≡ AGAIN) }
     ensures sending { IsSending result.0 }
+    ensures wake { IsWake wake.new }
 {
     match sender.try_close() {
         Ok((sender, true)) => (Held::OfSender(sender), DONE),
@@ -66,7 +71,11 @@ pub extern "C" fn hz_channel_free(end: &mut End, wake: &mut WakeOut) -> u32
     ensures again { result ≡ AGAIN
         → EndWent (IsGoing wake.new.threads) end.old.block.thing end.new.block.thing }
     ensures rest { result ≡ AGAIN → wake.new.owes ≡ 0 → EndMade IsAtRest end.new.block.thing }
+    ensures bad { (result ≡ BAD_HANDLE) ↔ (EndMade IsEnd end.old.block.thing → ⊥) }
+    ensures same { result ≡ BAD_HANDLE → end.new.block.thing ≡ end.old.block.thing }
     ensures codes { (result ≡ DONE) ⊎ (result ≡ AGAIN) ⊎ (result ≡ BAD_HANDLE) }
+    ensures wake { IsWake wake.new }
+    ensures no_wake { result ≢ AGAIN → IsNoWake wake.new }
 {
     wake.threads = 0;
     wake.owes = 0;
@@ -74,6 +83,7 @@ pub extern "C" fn hz_channel_free(end: &mut End, wake: &mut WakeOut) -> u32
         return BAD_HANDLE;
     };
     let Thing::OfEnd(stored) = mem::replace(&mut *opened, Thing::OfNothing) else {
+        end.give(opened);
         return BAD_HANDLE;
     };
     match go(stored.take(), wake) {
@@ -92,6 +102,8 @@ fn go(held: Held<u64>, wake: &mut WakeOut) -> Option<Held<u64>>
     ensures gone { IfNone result (IsAtRest held) }
     ensures going { IfSome result (IsGoing wake.new.threads held) }
     ensures rest { wake.new.owes ≡ 0 → IfSome result IsAtRest }
+    ensures wake { IsWake wake.new }
+    ensures no_wake { IfNone result (IsNoWake wake.new) }
 {
     match held {
         Held::OfSender(sender) => match sender.try_retire() {
@@ -107,7 +119,10 @@ fn go(held: Held<u64>, wake: &mut WakeOut) -> Option<Held<u64>>
 fn depart(departing: Departing<u64>, wake: &mut WakeOut) -> Option<Held<u64>>
     requires { (wake.old.threads ≡ 0) × (wake.old.owes ≡ 0) }
     ensures going { IfSome result (OnlyTold wake.new.threads (held.OfDeparting departing)) }
+    ensures awake { IfSome result (λ k. IsAsleep k → ⊥) }
     ensures rest { wake.new.owes ≡ 0 → IfSome result IsAtRest }
+    ensures wake { IsWake wake.new }
+    ensures no_wake { IfNone result (IsNoWake wake.new) }
 {
     match departing.try_go() {
         Ok(None) => None,

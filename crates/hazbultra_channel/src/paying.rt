@@ -1,8 +1,8 @@
 //! What an end owes, paid in small steps.
-ghost use Rattle.std.specs.Prelude.{◌≡◌, ◌≢◌, ◌⊎◌, None};
+ghost use Rattle.std.specs.Prelude.{◌≡◌, ◌≢◌, ◌↔◌, ◌⊎◌, ◌≤◌};
 ghost use Rattle.mb_channel.specs.Wakes.{one_if};
 ghost use Rattle.mb_channel.specs.declared.held.Held.TheVariants as held;
-ghost use Rattle.hazbultra_channel.specs.Ends.{EndMade, EndWent, HasPaid, IsAtRest};
+ghost use Rattle.hazbultra_channel.specs.Ends.{EndMade, EndWent, HasPaid, IsAtRest, IsEnd, IsNoWake, IsWake, WasTold};
 ghost use Rattle.hazbultra_channel.specs.declared.codes.TheConstants.{AGAIN, BAD_HANDLE, DONE};
 
 use crate::codes::{AGAIN, BAD_HANDLE, DONE};
@@ -18,7 +18,13 @@ pub extern "C" fn hz_channel_pay(end: &mut End, wake: &mut WakeOut) -> u32
     ensures paid { result ≢ BAD_HANDLE
         → EndWent (HasPaid wake.new.threads) end.old.block.thing end.new.block.thing }
     ensures done { result ≡ DONE → EndMade IsAtRest end.new.block.thing }
+    ensures told_on { EndMade WasTold end.old.block.thing → EndMade WasTold end.new.block.thing }
+    ensures bad { (result ≡ BAD_HANDLE) ↔ (EndMade IsEnd end.old.block.thing → ⊥) }
+    ensures same { result ≡ BAD_HANDLE → end.new.block.thing ≡ end.old.block.thing }
     ensures codes { (result ≡ DONE) ⊎ (result ≡ AGAIN) ⊎ (result ≡ BAD_HANDLE) }
+    ensures wake { IsWake wake.new }
+    ensures no_wake { result ≡ BAD_HANDLE → IsNoWake wake.new }
+    ensures owes { result ≡ DONE → wake.new.owes ≡ 0 }
 {
     wake.threads = 0;
     wake.owes = 0;
@@ -37,7 +43,9 @@ pub extern "C" fn hz_channel_pay(end: &mut End, wake: &mut WakeOut) -> u32
 #[inline(never)]
 pub(crate) fn pay_some(held: Held<u64>, wake: &mut WakeOut) -> Held<u64>
     ensures paid { HasPaid wake.new.threads held result }
+    ensures stays { IsAtRest held → result ≡ held }
     ensures rest { wake.new.owes ≡ 0 → IsAtRest result }
+    ensures wake { IsWake wake.new }
 {
     tell(wake, 0, false, false);
     match held {
@@ -52,6 +60,7 @@ pub(crate) fn pay_some(held: Held<u64>, wake: &mut WakeOut) -> Held<u64>
 fn tell(wake: &mut WakeOut, place: usize, woken: bool, owes: bool)
     ensures threads { wake.new.threads ≡ one_if woken }
     ensures owes { wake.new.owes ≡ one_if owes }
+    ensures wake { IsWake wake.new }
 {
     *wake = WakeOut {
         place: place as u64,
@@ -63,6 +72,7 @@ fn tell(wake: &mut WakeOut, place: usize, woken: bool, owes: bool)
 fn pay_owing(owing: Owing<u64>, wake: &mut WakeOut) -> Held<u64>
     ensures paid { HasPaid wake.new.threads (held.OfOwing owing) result }
     ensures rest { wake.new.owes ≡ 0 → IsAtRest result }
+    ensures wake { IsWake wake.new }
 {
     let place = owing.place();
     let (woken, rest) = owing.pay_some();
@@ -81,6 +91,7 @@ fn pay_owing(owing: Owing<u64>, wake: &mut WakeOut) -> Held<u64>
 fn pay_leaving(leaving: Leaving<u64>, wake: &mut WakeOut) -> Held<u64>
     ensures paid { HasPaid wake.new.threads (held.OfLeaving leaving) result }
     ensures rest { wake.new.owes ≡ 0 → IsAtRest result }
+    ensures wake { IsWake wake.new }
 {
     let place = leaving.place();
     let (woken, rest) = leaving.pay_some();
@@ -99,6 +110,7 @@ fn pay_leaving(leaving: Leaving<u64>, wake: &mut WakeOut) -> Held<u64>
 fn pay_cutter(cutter: Cutter<u64>, wake: &mut WakeOut) -> Held<u64>
     ensures paid { HasPaid wake.new.threads (held.OfCutter cutter) result }
     ensures rest { wake.new.owes ≡ 0 → IsAtRest result }
+    ensures wake { IsWake wake.new }
 {
     let place = cutter.place();
     let (woken, rest) = cutter.pay_some();
