@@ -161,8 +161,9 @@ uint32_t hz_channel_pay(hz_end *end, hz_wake *wake);
 HZ_CHECKED HZ_NONNULL
 uint32_t hz_channel_close(hz_end *sender, hz_wake *wake);
 
-/* Frees the end, a step at a time. HZ_DONE: it owed nothing, and the handle leads to nothing. HZ_AGAIN: it owes something, or has
- * not yet gone. Call this again. Before that, only hz_channel_pay may be called. HZ_BAD_HANDLE: the handle led to nothing. */
+/* Frees the end, a step at a time. HZ_DONE: it owed nothing, and the handle leads to nothing. The last sender has closed the
+ * channel by then. HZ_AGAIN: it owes something, or has not yet gone. Call this again. Before that, only hz_channel_pay may be
+ * called. HZ_BAD_HANDLE: the handle led to nothing. */
 HZ_CHECKED HZ_NONNULL
 uint32_t hz_channel_free(hz_end *end, hz_wake *wake);
 

@@ -1,10 +1,10 @@
 -- What a call does to the end that a handle leads to.
-use Rattle.std.specs.Prelude.{◌≡◌, ◌⊎◌, ◌≤◌, ℕ, Option, Some}
+use Rattle.std.specs.Prelude.{◌≡◌, ◌⊎◌, ◌≤◌, ℕ, Option, Some, true}
 use Rattle.mb_channel.specs.declared.held.Held.{Held}
 use Rattle.mb_channel.specs.declared.held.Held.TheVariants as held
-use Rattle.mb_channel.specs.Ends.{AreOfOneChannel, IsBehind, IsFresh, IsSame, Standing, got_by, log_of, stand_of}
+use Rattle.mb_channel.specs.Ends.{AreOfOneChannel, IsBehind, IsFresh, IsSame, Standing, got_by, log_of, stand_of, view_of}
 use Rattle.mb_channel.specs.Receives.{FoundNone, SawEmpty}
-use Rattle.mb_channel.specs.Standing.{NoMore, OneGot, got_in, sent_in, stand_with}
+use Rattle.mb_channel.specs.Standing.{HasCut, NoMore, OneGot, got_in, sent_in, stand_with}
 use Rattle.mb_channel.specs.Wakes.{Tells, Wakes, wakes_of, wakes_with}
 use Rattle.hazbultra_channel.specs.declared.codes.TheConstants.{CLOSED, CROWDED, NO_MEMORY}
 use Rattle.hazbultra_channel.specs.declared.thing.Thing.{Thing}
@@ -20,6 +20,10 @@ stand_held (held.OfLeaving l) = stand_with l.debtor
 stand_held (held.OfAsleep a) = stand_with a.debtor
 stand_held (held.OfDeparting d) = stand_of d.end
 stand_held (held.OfCutter c) = stand_with c.debtor
+
+-- the number of its segment, where a thread is to be woken
+abbrev pub place_held : {T : Type 0} → Held T → ℕ
+place_held h = (stand_held h).chair.me.0.at
 
 -- the tokens that it gave, and for how many of them its caller is still to be told to wake a thread
 abbrev pub wakes_held : {T : Type 0} → Held T → Wakes
@@ -62,6 +66,12 @@ IsReceiving (held.OfReceiver r) = Unit {0}
 IsReceiving (held.OfLeaving l) = Unit {0}
 IsReceiving (held.OfAsleep a) = Unit {0}
 IsReceiving _ = ⊥
+
+-- it counts for no sender any more. It is to cut all segments before it has gone exactly if it knows that no sender is left
+abbrev pub HasRetired : {T : Type 0} → Held T → Type 0
+HasRetired (held.OfDeparting d) = ((view_of d.end).sends ≡ 0) × (d.last ≡ (view_of d.end).alone)
+HasRetired (held.OfCutter c) = (c.debtor.chair.me.0.sends ≡ 0) × (c.debtor.chair.me.0.alone ≡ true)
+HasRetired h = ⊥
 
 -- it was told that the channel is closed, for ever
 abbrev pub WasTold : {T : Type 0} → Held T → Type 0
@@ -156,3 +166,14 @@ FoundNothing h k = ⊥
 abbrev pub IsGoing : {T : Type 0} → ℕ → Held T → Held T → Type 0
 IsGoing n h k = (sent_in (stand_held k) ≡ sent_in (stand_held h)) × (got_in (stand_held k) ≡ got_in (stand_held h))
     × Tells n (wakes_held h) (wakes_held k) × (IsAsleep k → ⊥)
+
+-- it is of the same channel. A sender still sends, or has retired, and then it stays so
+abbrev pub Retires : {T : Type 0} → Held T → Held T → Type 0
+Retires h k = ((stand_held k).chair.table_id ≡ (stand_held h).chair.table_id)
+    × (IsSending h → IsSending k ⊎ HasRetired k) × (HasRetired h → HasRetired k)
+
+-- it may go now: it neither owes anything nor sleeps, and no longer sends. It has cut all that it has to cut
+abbrev pub MayGo : {T : Type 0} → Held T → Type 0
+MayGo (held.OfReceiver r) = Unit {0}
+MayGo (held.OfDeparting d) = HasCut d
+MayGo _ = ⊥

@@ -1,11 +1,11 @@
 //! The calls that send and receive.
-ghost use Rattle.std.specs.Prelude.{◌≡◌, ◌≢◌, ◌↔◌, ◌⊎◌};
+ghost use Rattle.std.specs.Prelude.{◌≡◌, ◌≢◌, ◌↔◌, ◌⊎◌, ◌<◌};
 ghost use Rattle.mb_channel.specs.Standing.{OneGot, OneSent};
 ghost use Rattle.mb_channel.specs.Wakes.{Tells};
 ghost use Rattle.mb_channel.specs.declared.held.Held.TheVariants as held;
 ghost use Rattle.hazbultra_channel.specs.Ends.{EndMade, EndWent, FellAsleep, FoundNothing, Got, GotNothing};
 ghost use Rattle.hazbultra_channel.specs.Ends.{IsAsleep, IsAtRest, IsNoWake, IsReceiving, IsRefusal, IsSending, IsWake};
-ghost use Rattle.hazbultra_channel.specs.Ends.{OnlyTold, ReceivesInVain, SendsInVain, WasTold, stand_held, wakes_held};
+ghost use Rattle.hazbultra_channel.specs.Ends.{OnlyTold, ReceivesInVain, SendsInVain, WasTold, place_held, stand_held, wakes_held};
 ghost use Rattle.hazbultra_channel.specs.declared.codes.TheConstants.{AGAIN, BAD_HANDLE, CLOSED, DONE, NOTHING, SLEEPS, TOOK};
 
 use crate::codes::{AGAIN, BAD_HANDLE, DONE, NOTHING, SLEEPS, TOOK, code_of};
@@ -37,6 +37,8 @@ pub extern "C" fn hz_channel_send(sender: &mut End, value: u64, wake: &mut WakeO
         ⊎ (result ≡ BAD_HANDLE) }
     ensures wake { IsWake wake.new }
     ensures no_wake { result ≡ BAD_HANDLE → IsNoWake wake.new }
+    ensures place { 0 < wake.new.threads
+        → EndMade (λ k. wake.new.place ≡ place_held k) sender.new.block.thing }
 {
     wake.threads = 0;
     wake.owes = 0;
@@ -69,6 +71,7 @@ fn send(sender: Sender<u64>, value: u64, wake: &mut WakeOut) -> (Held<u64>, u32)
     ensures codes { (result.1 ≡ DONE) ⊎ (result.1 ≡ AGAIN) ⊎ IsRefusal result.1 }
     ensures sending { IsSending result.0 }
     ensures wake { IsWake wake.new }
+    ensures place { 0 < wake.new.threads → wake.new.place ≡ place_held result.0 }
 {
     match sender.try_send(value) {
         Sending::Sent(sender) => (Held::OfSender(sender), DONE),
@@ -93,8 +96,8 @@ pub extern "C" fn hz_channel_receive(receiver: &mut End, value: &mut u64, wake: 
     ensures sleeps { result ≡ SLEEPS → EndMade IsAsleep receiver.new.block.thing }
     ensures looked { result ≡ SLEEPS
         → EndWent FellAsleep receiver.old.block.thing receiver.new.block.thing }
-    ensures place { result ≡ SLEEPS → EndMade (λ k. wake.new.place
-        ≡ (stand_held k).chair.me.0.at) receiver.new.block.thing }
+    ensures place { (result ≡ SLEEPS) ⊎ (0 < wake.new.threads)
+        → EndMade (λ k. wake.new.place ≡ place_held k) receiver.new.block.thing }
     ensures closed { result ≡ CLOSED → EndMade WasTold receiver.new.block.thing }
     ensures still_closed { EndMade ReceivesInVain receiver.old.block.thing → result ≡ CLOSED }
     ensures rest { result ≢ SLEEPS → result ≢ BAD_HANDLE → wake.new.owes ≡ 0
@@ -135,8 +138,8 @@ fn receive(receiver: Receiver<u64>, value: &mut u64, wake: &mut WakeOut) -> (Hel
         → OnlyTold wake.new.threads (held.OfReceiver receiver) result.0 }
     ensures sleeps { result.1 ≡ SLEEPS → IsAsleep result.0 }
     ensures looked { result.1 ≡ SLEEPS → FellAsleep (held.OfReceiver receiver) result.0 }
-    ensures place { result.1 ≡ SLEEPS
-        → wake.new.place ≡ (stand_held result.0).chair.me.0.at }
+    ensures place { (result.1 ≡ SLEEPS) ⊎ (0 < wake.new.threads)
+        → wake.new.place ≡ place_held result.0 }
     ensures closed { result.1 ≡ CLOSED → WasTold result.0 }
     ensures still_closed { WasTold (held.OfReceiver receiver) → result.1 ≡ CLOSED }
     ensures rest { result.1 ≢ SLEEPS → wake.new.owes ≡ 0 → IsAtRest result.0 }
@@ -175,8 +178,8 @@ fn wake_up(asleep: Asleep<u64>, value: &mut u64, wake: &mut WakeOut) -> (Held<u6
     ensures none { result.1 ≢ TOOK
         → OnlyTold wake.new.threads (held.OfAsleep asleep) result.0 }
     ensures sleeps { result.1 ≡ SLEEPS → IsAsleep result.0 }
-    ensures place { result.1 ≡ SLEEPS
-        → wake.new.place ≡ (stand_held result.0).chair.me.0.at }
+    ensures place { (result.1 ≡ SLEEPS) ⊎ (0 < wake.new.threads)
+        → wake.new.place ≡ place_held result.0 }
     ensures codes { (result.1 ≡ TOOK) ⊎ (result.1 ≡ SLEEPS) ⊎ (result.1 ≡ AGAIN) }
     ensures rest { result.1 ≢ SLEEPS → wake.new.owes ≡ 0 → IsAtRest result.0 }
     ensures receiving { IsReceiving result.0 }
