@@ -80,8 +80,8 @@ static void a_sleeper_is_woken(void) {
     EXPECT(hz_channel_free(&other, &wake) == HZ_DONE && is_none(other));
     /* The last sender wakes whoever sleeps. */
     EXPECT(hz_channel_receive(&receiver, &value, &wake) == HZ_SLEEPS);
-    EXPECT(hz_channel_free(&sender, &wake) == HZ_AGAIN);
-    EXPECT(wake.threads == 1);
+    EXPECT(hz_channel_free(&sender, &wake) == HZ_AGAIN && wake.threads == 0);
+    EXPECT(hz_channel_free(&sender, &wake) == HZ_AGAIN && wake.threads == 1);
     gone(&sender);
     EXPECT(receive(&receiver) == HZ_CLOSED);
     gone(&receiver);

@@ -127,7 +127,7 @@ uint32_t hz_channel_new(hz_end *sender, hz_end *receiver);
 
 /* HZ_DONE: other leads to a new end of the same kind and channel. HZ_AGAIN: the end owes something, sleeps, or goes. HZ_CROWDED.
  * HZ_NO_MEMORY. HZ_BAD_HANDLE: end leads to nothing, or other to something. Only HZ_DONE makes an end. What the end sent and
- * received stays. */
+ * received stays. At the last two codes nothing has changed. */
 HZ_CHECKED HZ_NONNULL
 uint32_t hz_channel_another(hz_end *end, hz_end *other);
 
@@ -138,11 +138,11 @@ HZ_CHECKED HZ_NONNULL
 uint32_t hz_channel_send(hz_end *sender, uint64_t value, hz_wake *wake);
 
 /* HZ_TOOK: the receiver took this one value more. At each other code it took none. HZ_SLEEPS: the receiver is in the list of those
- * that wait. List the thread under this place, and call again. Let it sleep only if the code is HZ_SLEEPS again. Once it is
- * woken, call again. Until then the receiver can do nothing else but hz_channel_pay and hz_channel_free, which end its sleep.
- * HZ_AGAIN: a value is just being sent, another was first, there is no memory, or the receiver still owed something. HZ_CLOSED: no
- * value can come any more. HZ_CROWDED. HZ_BAD_HANDLE: the handle leads to no receiver, and stays as it was. value is written at
- * HZ_TOOK only.
+ * that wait. If it was not before, nothing waited at a moment of this call. List the thread under this place, and call again. Let
+ * it sleep only if the code is HZ_SLEEPS again. Once it is woken, call again. Until then the receiver can do nothing else but
+ * hz_channel_pay and hz_channel_free, which end its sleep. HZ_AGAIN: a value is just being sent, another was first, there is no
+ * memory, or the receiver still owed something. HZ_CLOSED, and then for ever: no value can come any more. HZ_CROWDED.
+ * HZ_BAD_HANDLE: the handle leads to no receiver, and stays as it was. value is written at HZ_TOOK only.
  *
  * Suppose that somebody woke a thread, and its receiver does not go on sleeping. Then the token may still be in the list, beside
  * another receiver that sleeps. So the thread has to wake another one at its place. It need not if it was woken before a call that
@@ -156,7 +156,7 @@ HZ_CHECKED HZ_NONNULL
 uint32_t hz_channel_try_receive(hz_end *receiver, uint64_t *value);
 
 /* Pays what the end owes, a step at a time. A receiver that sleeps stops waiting. HZ_DONE: it owes nothing, and does not sleep.
- * HZ_AGAIN: it still owes something. HZ_BAD_HANDLE: the handle leads to nothing. */
+ * HZ_AGAIN: it still owes something, and does not sleep. HZ_BAD_HANDLE: the handle leads to nothing, and stays as it was. */
 HZ_NONNULL
 uint32_t hz_channel_pay(hz_end *end, hz_wake *wake);
 
@@ -165,8 +165,9 @@ uint32_t hz_channel_pay(hz_end *end, hz_wake *wake);
 HZ_CHECKED HZ_NONNULL
 uint32_t hz_channel_close(hz_end *sender, hz_wake *wake);
 
-/* Frees the end, a step at a time. HZ_DONE: it owed nothing, and the handle leads to nothing. HZ_AGAIN: it owes something, or has
- * not yet gone. Call this again. Before that, only hz_channel_pay may be called. HZ_BAD_HANDLE: the handle led to nothing. */
+/* Frees the end, a step at a time. HZ_DONE: it owed nothing, and the handle leads to nothing. The last sender has closed the
+ * channel by then. HZ_AGAIN: it owes something, or has not yet gone. Call this again. Before that, only hz_channel_pay may be
+ * called. HZ_BAD_HANDLE: the handle led to nothing. */
 HZ_CHECKED HZ_NONNULL
 uint32_t hz_channel_free(hz_end *end, hz_wake *wake);
 

@@ -1,14 +1,15 @@
 -- What a call does to the end that a handle leads to.
-use Rattle.std.specs.Prelude.{◌≡◌, ◌⊎◌, ℕ, Option, Some}
+use Rattle.std.specs.Prelude.{◌≡◌, ◌⊎◌, ◌≤◌, ℕ, Option, Some, true}
 use Rattle.mb_channel.specs.declared.held.Held.{Held}
 use Rattle.mb_channel.specs.declared.held.Held.TheVariants as held
-use Rattle.mb_channel.specs.Ends.{AreOfOneChannel, IsBehind, IsFresh, IsSame, Standing, got_by, log_of, stand_of}
+use Rattle.mb_channel.specs.Ends.{AreOfOneChannel, IsBehind, IsFresh, IsSame, Standing, got_by, log_of, stand_of, view_of}
 use Rattle.mb_channel.specs.Receives.{FoundNone, SawEmpty}
-use Rattle.mb_channel.specs.Standing.{NoMore, OneGot, got_in, sent_in, stand_with}
+use Rattle.mb_channel.specs.Standing.{HasCut, NoMore, OneGot, got_in, sent_in, stand_with}
 use Rattle.mb_channel.specs.Wakes.{Tells, Wakes, wakes_of, wakes_with}
 use Rattle.hazbultra_channel.specs.declared.codes.TheConstants.{CLOSED, CROWDED, NO_MEMORY}
 use Rattle.hazbultra_channel.specs.declared.thing.Thing.{Thing}
 use Rattle.hazbultra_channel.specs.declared.thing.Thing.TheVariants.{OfEnd}
+use Rattle.hazbultra_channel.specs.declared.thing.WakeOut.{WakeOut}
 
 -- where the end is, and what it did
 abbrev pub stand_held : {T : Type 0} → Held T → Standing T
@@ -19,6 +20,10 @@ stand_held (held.OfLeaving l) = stand_with l.debtor
 stand_held (held.OfAsleep a) = stand_with a.debtor
 stand_held (held.OfDeparting d) = stand_of d.end
 stand_held (held.OfCutter c) = stand_with c.debtor
+
+-- the number of its segment, where a thread is to be woken
+abbrev pub place_held : {T : Type 0} → Held T → ℕ
+place_held h = (stand_held h).chair.me.0.at
 
 -- the tokens that it gave, and for how many of them its caller is still to be told to wake a thread
 abbrev pub wakes_held : {T : Type 0} → Held T → Wakes
@@ -45,6 +50,10 @@ abbrev pub IsAsleep : {T : Type 0} → Held T → Type 0
 IsAsleep (held.OfAsleep a) = Unit {0}
 IsAsleep _ = ⊥
 
+-- any end, whatever it owes
+abbrev pub IsEnd : {T : Type 0} → Held T → Type 0
+IsEnd h = Unit {0}
+
 -- a sender that does not go, with or without something owed
 abbrev pub IsSending : {T : Type 0} → Held T → Type 0
 IsSending (held.OfSender s) = Unit {0}
@@ -58,11 +67,24 @@ IsReceiving (held.OfLeaving l) = Unit {0}
 IsReceiving (held.OfAsleep a) = Unit {0}
 IsReceiving _ = ⊥
 
+-- it counts for no sender any more. It is to cut all segments before it has gone exactly if it knows that no sender is left
+abbrev pub HasRetired : {T : Type 0} → Held T → Type 0
+HasRetired (held.OfDeparting d) = ((view_of d.end).sends ≡ 0) × (d.last ≡ (view_of d.end).alone)
+HasRetired (held.OfCutter c) = (c.debtor.chair.me.0.sends ≡ 0) × (c.debtor.chair.me.0.alone ≡ true)
+HasRetired h = ⊥
+
 -- it was told that the channel is closed, for ever
 abbrev pub WasTold : {T : Type 0} → Held T → Type 0
 WasTold (held.OfSender s) = IsBehind s.end
 WasTold (held.OfReceiver r) = IsBehind r.end
 WasTold _ = ⊥
+
+-- a sender that was told so, and a receiver
+abbrev pub SendsInVain : {T : Type 0} → Held T → Type 0
+SendsInVain h = IsSending h × WasTold h
+
+abbrev pub ReceivesInVain : {T : Type 0} → Held T → Type 0
+ReceivesInVain h = IsReceiving h × WasTold h
 
 -- nothing was sent or received, and the caller was told to wake n threads
 abbrev pub OnlyTold : {T : Type 0} → ℕ → Held T → Held T → Type 0
@@ -79,13 +101,24 @@ abbrev pub EndWent : (Held ℕ → Held ℕ → Type 0) → Option Thing → Opt
 EndWent R (Some (OfEnd s)) (Some (OfEnd t)) = R s.held t.held
 EndWent R _ _ = ⊥
 
+-- ---- what a caller is told to do
+-- one thread to wake at most, and something owed or not
+abbrev pub IsWake : WakeOut → Type 0
+IsWake w = (w.threads ≤ 1) × (w.owes ≤ 1)
+
+-- no thread to wake, and nothing owed
+abbrev pub IsNoWake : WakeOut → Type 0
+IsNoWake w = (w.threads ≡ 0) × (w.owes ≡ 0)
+
 -- the code of a refusal
 abbrev pub IsRefusal : ℕ → Type 0
 IsRefusal code = (code ≡ NO_MEMORY) ⊎ (code ≡ CLOSED) ⊎ (code ≡ CROWDED)
 
--- it paid: it did nothing else, its caller was told to wake n threads, and it still sends, receives or goes
+-- it paid: it did nothing else, its caller was told to wake n threads, and it still sends, receives or goes. It does not
+-- sleep
 abbrev pub HasPaid : {T : Type 0} → ℕ → Held T → Held T → Type 0
 HasPaid n h k = OnlyTold n h k × (IsSending h → IsSending k) × (IsReceiving h → IsReceiving k)
+    × (IsAsleep k → ⊥)
 
 -- ---- ends that are made
 -- the handles lead to a sender and a receiver of one channel, which did nothing yet
@@ -116,6 +149,12 @@ abbrev pub GotNothing : {T : Type 0} → Held T → Held T → Type 0
 GotNothing (held.OfReceiver r) (held.OfReceiver q) = IsSame r.end q.end × (got_by q.end ≡ got_by r.end)
 GotNothing h k = k ≡ h
 
+-- it sleeps. A receiver that did not sleep before looked, and nothing waited at that moment
+abbrev pub FellAsleep : {T : Type 0} → Held T → Held T → Type 0
+FellAsleep (held.OfReceiver r) (held.OfAsleep a) = SawEmpty (stand_of r.end) (stand_with a.debtor)
+FellAsleep (held.OfAsleep a) (held.OfAsleep b) = Unit {0}
+FellAsleep h k = ⊥
+
 -- it looked, and nothing waited at that moment
 abbrev pub FoundNothing : {T : Type 0} → Held T → Held T → Type 0
 FoundNothing (held.OfReceiver r) (held.OfReceiver q) = SawEmpty (stand_of r.end) (stand_of q.end)
@@ -123,7 +162,18 @@ FoundNothing (held.OfReceiver r) (held.OfReceiver q) = SawEmpty (stand_of r.end)
 FoundNothing h k = ⊥
 
 -- ---- an end that goes
--- it sent and received nothing, and its caller was told to wake n threads
+-- it sent and received nothing, and its caller was told to wake n threads. It does not sleep
 abbrev pub IsGoing : {T : Type 0} → ℕ → Held T → Held T → Type 0
 IsGoing n h k = (sent_in (stand_held k) ≡ sent_in (stand_held h)) × (got_in (stand_held k) ≡ got_in (stand_held h))
-    × Tells n (wakes_held h) (wakes_held k)
+    × Tells n (wakes_held h) (wakes_held k) × (IsAsleep k → ⊥)
+
+-- it is of the same channel. A sender still sends, or has retired, and then it stays so
+abbrev pub Retires : {T : Type 0} → Held T → Held T → Type 0
+Retires h k = ((stand_held k).chair.table_id ≡ (stand_held h).chair.table_id)
+    × (IsSending h → IsSending k ⊎ HasRetired k) × (HasRetired h → HasRetired k)
+
+-- it may go now: it neither owes anything nor sleeps, and no longer sends. It has cut all that it has to cut
+abbrev pub MayGo : {T : Type 0} → Held T → Type 0
+MayGo (held.OfReceiver r) = Unit {0}
+MayGo (held.OfDeparting d) = HasCut d
+MayGo _ = ⊥

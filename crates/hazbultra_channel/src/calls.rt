@@ -1,11 +1,12 @@
 //! The calls that send and receive.
-ghost use Rattle.std.specs.Prelude.{◌≡◌, ◌≢◌, ◌⊎◌};
+ghost use Rattle.std.specs.Prelude.{◌≡◌, ◌≢◌, ◌↔◌, ◌⊎◌, ◌<◌};
 ghost use Rattle.mb_channel.specs.Standing.{OneGot, OneSent};
 ghost use Rattle.mb_channel.specs.Wakes.{Tells};
 ghost use Rattle.mb_channel.specs.declared.held.Held.TheVariants as held;
-ghost use Rattle.hazbultra_channel.specs.Ends.{EndMade, EndWent, IsAsleep, IsAtRest, IsReceiving};
-ghost use Rattle.hazbultra_channel.specs.Ends.{FoundNothing, Got, GotNothing, IsSending, OnlyTold, WasTold, stand_held, wakes_held};
-ghost use Rattle.hazbultra_channel.specs.declared.codes.TheConstants.{BAD_HANDLE, CLOSED, DONE, NOTHING, SLEEPS, TOOK};
+ghost use Rattle.hazbultra_channel.specs.Ends.{EndMade, EndWent, FellAsleep, FoundNothing, Got, GotNothing};
+ghost use Rattle.hazbultra_channel.specs.Ends.{IsAsleep, IsAtRest, IsNoWake, IsReceiving, IsRefusal, IsSending, IsWake};
+ghost use Rattle.hazbultra_channel.specs.Ends.{OnlyTold, ReceivesInVain, SendsInVain, WasTold, place_held, stand_held, wakes_held};
+ghost use Rattle.hazbultra_channel.specs.declared.codes.TheConstants.{AGAIN, BAD_HANDLE, CLOSED, DONE, NOTHING, SLEEPS, TOOK};
 
 use crate::codes::{AGAIN, BAD_HANDLE, DONE, NOTHING, SLEEPS, TOOK, code_of};
 use crate::handle::End;
@@ -28,9 +29,16 @@ pub extern "C" fn hz_channel_send(sender: &mut End, value: u64, wake: &mut WakeO
     ensures closed { result ≡ CLOSED → EndMade WasTold sender.new.block.thing }
     ensures rest { result ≢ BAD_HANDLE → wake.new.owes ≡ 0
         → EndMade IsAtRest sender.new.block.thing }
-    ensures bad { result ≡ BAD_HANDLE → EndMade IsSending sender.old.block.thing → ⊥ }
+    ensures still_closed { EndMade SendsInVain sender.old.block.thing → result ≡ CLOSED }
+    ensures bad { (result ≡ BAD_HANDLE) ↔ (EndMade IsSending sender.old.block.thing → ⊥) }
     ensures same { result ≡ BAD_HANDLE → sender.new.block.thing ≡ sender.old.block.thing }
     ensures still { result ≢ BAD_HANDLE → EndMade IsSending sender.new.block.thing }
+    ensures codes { (result ≡ DONE) ⊎ (result ≡ AGAIN) ⊎ IsRefusal result
+        ⊎ (result ≡ BAD_HANDLE) }
+    ensures wake { IsWake wake.new }
+    ensures no_wake { result ≡ BAD_HANDLE → IsNoWake wake.new }
+    ensures place { 0 < wake.new.threads
+        → EndMade (λ k. wake.new.place ≡ place_held k) sender.new.block.thing }
 {
     wake.threads = 0;
     wake.owes = 0;
@@ -58,9 +66,12 @@ fn send(sender: Sender<u64>, value: u64, wake: &mut WakeOut) -> (Held<u64>, u32)
     ensures unsent { result.1 ≢ DONE
         → OnlyTold wake.new.threads (held.OfSender sender) result.0 }
     ensures closed { result.1 ≡ CLOSED → WasTold result.0 }
+    ensures still_closed { WasTold (held.OfSender sender) → result.1 ≡ CLOSED }
     ensures rest { wake.new.owes ≡ 0 → IsAtRest result.0 }
-    ensures code { result.1 ≢ BAD_HANDLE }
+    ensures codes { (result.1 ≡ DONE) ⊎ (result.1 ≡ AGAIN) ⊎ IsRefusal result.1 }
     ensures sending { IsSending result.0 }
+    ensures wake { IsWake wake.new }
+    ensures place { 0 < wake.new.threads → wake.new.place ≡ place_held result.0 }
 {
     match sender.try_send(value) {
         Sending::Sent(sender) => (Held::OfSender(sender), DONE),
@@ -83,13 +94,22 @@ pub extern "C" fn hz_channel_receive(receiver: &mut End, value: &mut u64, wake: 
     ensures none { result ≢ TOOK → result ≢ BAD_HANDLE
         → EndWent (OnlyTold wake.new.threads) receiver.old.block.thing receiver.new.block.thing }
     ensures sleeps { result ≡ SLEEPS → EndMade IsAsleep receiver.new.block.thing }
+    ensures looked { result ≡ SLEEPS
+        → EndWent FellAsleep receiver.old.block.thing receiver.new.block.thing }
+    ensures place { (result ≡ SLEEPS) ⊎ (0 < wake.new.threads)
+        → EndMade (λ k. wake.new.place ≡ place_held k) receiver.new.block.thing }
     ensures closed { result ≡ CLOSED → EndMade WasTold receiver.new.block.thing }
+    ensures still_closed { EndMade ReceivesInVain receiver.old.block.thing → result ≡ CLOSED }
     ensures rest { result ≢ SLEEPS → result ≢ BAD_HANDLE → wake.new.owes ≡ 0
         → EndMade IsAtRest receiver.new.block.thing }
-    ensures bad { result ≡ BAD_HANDLE → EndMade IsReceiving receiver.old.block.thing → ⊥ }
+    ensures bad { (result ≡ BAD_HANDLE) ↔ (EndMade IsReceiving receiver.old.block.thing → ⊥) }
     ensures same { result ≡ BAD_HANDLE → receiver.new.block.thing ≡ receiver.old.block.thing }
     ensures still { result ≢ BAD_HANDLE → EndMade IsReceiving receiver.new.block.thing }
     ensures kept { result ≢ TOOK → value.new ≡ value.old }
+    ensures codes { (result ≡ TOOK) ⊎ (result ≡ SLEEPS) ⊎ (result ≡ AGAIN)
+        ⊎ IsRefusal result ⊎ (result ≡ BAD_HANDLE) }
+    ensures wake { IsWake wake.new }
+    ensures no_wake { (result ≡ BAD_HANDLE) ⊎ (result ≡ SLEEPS) → IsNoWake wake.new }
 {
     wake.threads = 0;
     wake.owes = 0;
@@ -117,11 +137,18 @@ fn receive(receiver: Receiver<u64>, value: &mut u64, wake: &mut WakeOut) -> (Hel
     ensures none { result.1 ≢ TOOK
         → OnlyTold wake.new.threads (held.OfReceiver receiver) result.0 }
     ensures sleeps { result.1 ≡ SLEEPS → IsAsleep result.0 }
+    ensures looked { result.1 ≡ SLEEPS → FellAsleep (held.OfReceiver receiver) result.0 }
+    ensures place { (result.1 ≡ SLEEPS) ⊎ (0 < wake.new.threads)
+        → wake.new.place ≡ place_held result.0 }
     ensures closed { result.1 ≡ CLOSED → WasTold result.0 }
+    ensures still_closed { WasTold (held.OfReceiver receiver) → result.1 ≡ CLOSED }
     ensures rest { result.1 ≢ SLEEPS → wake.new.owes ≡ 0 → IsAtRest result.0 }
-    ensures code { result.1 ≢ BAD_HANDLE }
+    ensures codes { (result.1 ≡ TOOK) ⊎ (result.1 ≡ SLEEPS) ⊎ (result.1 ≡ AGAIN)
+        ⊎ IsRefusal result.1 }
     ensures receiving { IsReceiving result.0 }
     ensures kept { result.1 ≢ TOOK → value.new ≡ value.old }
+    ensures wake { IsWake wake.new }
+    ensures no_wake { result.1 ≡ SLEEPS → IsNoWake wake.new }
 {
     match receiver.poll_receive() {
         Polled::Took(receiver, taken) => {
@@ -151,10 +178,14 @@ fn wake_up(asleep: Asleep<u64>, value: &mut u64, wake: &mut WakeOut) -> (Held<u6
     ensures none { result.1 ≢ TOOK
         → OnlyTold wake.new.threads (held.OfAsleep asleep) result.0 }
     ensures sleeps { result.1 ≡ SLEEPS → IsAsleep result.0 }
-    ensures codes { (result.1 ≢ BAD_HANDLE) × (result.1 ≢ CLOSED) }
+    ensures place { (result.1 ≡ SLEEPS) ⊎ (0 < wake.new.threads)
+        → wake.new.place ≡ place_held result.0 }
+    ensures codes { (result.1 ≡ TOOK) ⊎ (result.1 ≡ SLEEPS) ⊎ (result.1 ≡ AGAIN) }
     ensures rest { result.1 ≢ SLEEPS → wake.new.owes ≡ 0 → IsAtRest result.0 }
     ensures receiving { IsReceiving result.0 }
     ensures kept { result.1 ≢ TOOK → value.new ≡ value.old }
+    ensures wake { IsWake wake.new }
+    ensures no_wake { result.1 ≡ SLEEPS → IsNoWake wake.new }
 {
     match asleep.wake_up() {
         Polled::Took(receiver, taken) => {
@@ -187,9 +218,12 @@ pub extern "C" fn hz_channel_try_receive(receiver: &mut End, value: &mut u64) ->
     ensures nothing { result ≡ NOTHING
         → EndWent FoundNothing receiver.old.block.thing receiver.new.block.thing }
     ensures closed { result ≡ CLOSED → EndMade WasTold receiver.new.block.thing }
-    ensures bad { result ≡ BAD_HANDLE → EndMade IsReceiving receiver.old.block.thing → ⊥ }
+    ensures still_closed { EndMade ReceivesInVain receiver.old.block.thing → result ≡ CLOSED }
+    ensures bad { (result ≡ BAD_HANDLE) ↔ (EndMade IsReceiving receiver.old.block.thing → ⊥) }
     ensures same { result ≡ BAD_HANDLE → receiver.new.block.thing ≡ receiver.old.block.thing }
     ensures kept { result ≢ TOOK → value.new ≡ value.old }
+    ensures codes { (result ≡ TOOK) ⊎ (result ≡ NOTHING) ⊎ (result ≡ AGAIN)
+        ⊎ IsRefusal result ⊎ (result ≡ BAD_HANDLE) }
 {
     let Some(opened) = receiver.lend() else {
         return BAD_HANDLE;
@@ -213,7 +247,9 @@ fn try_receive(receiver: Receiver<u64>, value: &mut u64) -> (Held<u64>, u32)
     ensures none { result.1 ≢ TOOK → GotNothing (held.OfReceiver receiver) result.0 }
     ensures nothing { result.1 ≡ NOTHING → FoundNothing (held.OfReceiver receiver) result.0 }
     ensures closed { result.1 ≡ CLOSED → WasTold result.0 }
-    ensures code { result.1 ≢ BAD_HANDLE }
+    ensures still_closed { WasTold (held.OfReceiver receiver) → result.1 ≡ CLOSED }
+    ensures codes { (result.1 ≡ TOOK) ⊎ (result.1 ≡ NOTHING) ⊎ (result.1 ≡ AGAIN)
+        ⊎ IsRefusal result.1 }
     ensures kept { result.1 ≢ TOOK → value.new ≡ value.old }
 {
     let mut receiver = receiver;

@@ -1,7 +1,7 @@
 //! The calls that make a channel and its ends.
 ghost use Rattle.std.specs.Prelude.{◌≡◌, ◌≢◌, ◌↔◌, ◌⊎◌, IfErr, IfOk, None};
-ghost use Rattle.hazbultra_channel.specs.Ends.{AreNew, EndWent, IsAnother, StaysSo};
-ghost use Rattle.hazbultra_channel.specs.declared.codes.TheConstants.{BAD_HANDLE, DONE, NO_MEMORY};
+ghost use Rattle.hazbultra_channel.specs.Ends.{AreNew, EndMade, EndWent, IsAnother, IsEnd, StaysSo, WasTold};
+ghost use Rattle.hazbultra_channel.specs.declared.codes.TheConstants.{AGAIN, BAD_HANDLE, CROWDED, DONE, NO_MEMORY};
 
 use crate::codes::{AGAIN, BAD_HANDLE, CROWDED, DONE, NO_MEMORY};
 use crate::handle::End;
@@ -49,9 +49,14 @@ pub extern "C" fn hz_channel_another(alloc: Global, end: &mut End, other: &mut E
     ensures end { result ≡ DONE → EndWent StaysSo end.old.block.thing end.new.block.thing }
     ensures refused { result ≢ DONE → result ≢ BAD_HANDLE → result ≢ NO_MEMORY
         → EndWent StaysSo end.old.block.thing end.new.block.thing }
-    ensures bad { result ≡ BAD_HANDLE → end.new.block.thing ≡ end.old.block.thing }
-    ensures kept { result ≡ NO_MEMORY → end.new.block.thing ≡ end.old.block.thing }
+    ensures told_on { EndMade WasTold end.old.block.thing → EndMade WasTold end.new.block.thing }
+    ensures bad { (result ≡ BAD_HANDLE)
+        ↔ ((EndMade IsEnd end.old.block.thing → ⊥) ⊎ (other.old.block.thing ≢ None)) }
+    ensures kept { (result ≡ BAD_HANDLE) ⊎ (result ≡ NO_MEMORY)
+        → end.new.block.thing ≡ end.old.block.thing }
     ensures same { result ≢ DONE → other.new.block.thing ≡ other.old.block.thing }
+    ensures codes { (result ≡ DONE) ⊎ (result ≡ AGAIN) ⊎ (result ≡ CROWDED)
+        ⊎ (result ≡ NO_MEMORY) ⊎ (result ≡ BAD_HANDLE) }
 {
     if !other.is_none() {
         return BAD_HANDLE;
@@ -59,11 +64,12 @@ pub extern "C" fn hz_channel_another(alloc: Global, end: &mut End, other: &mut E
     let Some(opened) = end.lend() else {
         return BAD_HANDLE;
     };
-    let Ok(mut room) = Box::new(alloc, Thing::OfNothing) else {
-        return NO_MEMORY;
-    };
     let Thing::OfEnd(stored) = mem::replace(opened, Thing::OfNothing) else {
         return BAD_HANDLE;
+    };
+    let Ok(mut room) = Box::new(alloc, Thing::OfNothing) else {
+        *opened = Thing::OfEnd(stored);
+        return NO_MEMORY;
     };
     let (held, made) = make_another(stored.take());
     *opened = Thing::OfEnd(Stored::new(held));
@@ -81,8 +87,8 @@ pub extern "C" fn hz_channel_another(alloc: Global, end: &mut End, other: &mut E
 fn make_another(held: Held<u64>) -> (Held<u64>, Result<Held<u64>, u32>)
     ensures same { StaysSo held result.0 }
     ensures made { IfOk result.1 (IsAnother held) }
-    ensures code { IfErr result.1 (λ code. (code ≢ DONE) × (code ≢ BAD_HANDLE)
-        × (code ≢ NO_MEMORY)) }
+    ensures told_on { WasTold held → WasTold result.0 }
+    ensures codes { IfErr result.1 (λ code. (code ≡ AGAIN) ⊎ (code ≡ CROWDED)) }
 {
     match held {
         Held::OfSender(sender) => {

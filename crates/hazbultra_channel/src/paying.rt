@@ -1,8 +1,9 @@
 //! What an end owes, paid in small steps.
-ghost use Rattle.std.specs.Prelude.{◌≡◌, ◌≢◌, ◌⊎◌, None};
+ghost use Rattle.std.specs.Prelude.{◌≡◌, ◌≢◌, ◌↔◌, ◌⊎◌, ◌<◌};
 ghost use Rattle.mb_channel.specs.Wakes.{one_if};
 ghost use Rattle.mb_channel.specs.declared.held.Held.TheVariants as held;
-ghost use Rattle.hazbultra_channel.specs.Ends.{EndMade, EndWent, HasPaid, IsAtRest};
+ghost use Rattle.hazbultra_channel.specs.Ends.{EndMade, EndWent, HasPaid, HasRetired, IsAtRest, IsEnd};
+ghost use Rattle.hazbultra_channel.specs.Ends.{IsNoWake, IsWake, WasTold, place_held};
 ghost use Rattle.hazbultra_channel.specs.declared.codes.TheConstants.{AGAIN, BAD_HANDLE, DONE};
 
 use crate::codes::{AGAIN, BAD_HANDLE, DONE};
@@ -18,7 +19,17 @@ pub extern "C" fn hz_channel_pay(end: &mut End, wake: &mut WakeOut) -> u32
     ensures paid { result ≢ BAD_HANDLE
         → EndWent (HasPaid wake.new.threads) end.old.block.thing end.new.block.thing }
     ensures done { result ≡ DONE → EndMade IsAtRest end.new.block.thing }
+    ensures told_on { EndMade WasTold end.old.block.thing → EndMade WasTold end.new.block.thing }
+    ensures retired { EndMade HasRetired end.old.block.thing
+        → EndMade HasRetired end.new.block.thing }
+    ensures bad { (result ≡ BAD_HANDLE) ↔ (EndMade IsEnd end.old.block.thing → ⊥) }
+    ensures same { result ≡ BAD_HANDLE → end.new.block.thing ≡ end.old.block.thing }
     ensures codes { (result ≡ DONE) ⊎ (result ≡ AGAIN) ⊎ (result ≡ BAD_HANDLE) }
+    ensures wake { IsWake wake.new }
+    ensures no_wake { result ≡ BAD_HANDLE → IsNoWake wake.new }
+    ensures owes { result ≡ DONE → wake.new.owes ≡ 0 }
+    ensures place { 0 < wake.new.threads
+        → EndMade (λ k. wake.new.place ≡ place_held k) end.new.block.thing }
 {
     wake.threads = 0;
     wake.owes = 0;
@@ -37,7 +48,11 @@ pub extern "C" fn hz_channel_pay(end: &mut End, wake: &mut WakeOut) -> u32
 #[inline(never)]
 pub(crate) fn pay_some(held: Held<u64>, wake: &mut WakeOut) -> Held<u64>
     ensures paid { HasPaid wake.new.threads held result }
+    ensures stays { IsAtRest held → result ≡ held }
+    ensures retired { HasRetired held → HasRetired result }
     ensures rest { wake.new.owes ≡ 0 → IsAtRest result }
+    ensures wake { IsWake wake.new }
+    ensures place { 0 < wake.new.threads → wake.new.place ≡ place_held result }
 {
     tell(wake, 0, false, false);
     match held {
@@ -52,6 +67,8 @@ pub(crate) fn pay_some(held: Held<u64>, wake: &mut WakeOut) -> Held<u64>
 fn tell(wake: &mut WakeOut, place: usize, woken: bool, owes: bool)
     ensures threads { wake.new.threads ≡ one_if woken }
     ensures owes { wake.new.owes ≡ one_if owes }
+    ensures wake { IsWake wake.new }
+    ensures place { wake.new.place ≡ place }
 {
     *wake = WakeOut {
         place: place as u64,
@@ -63,6 +80,8 @@ fn tell(wake: &mut WakeOut, place: usize, woken: bool, owes: bool)
 fn pay_owing(owing: Owing<u64>, wake: &mut WakeOut) -> Held<u64>
     ensures paid { HasPaid wake.new.threads (held.OfOwing owing) result }
     ensures rest { wake.new.owes ≡ 0 → IsAtRest result }
+    ensures wake { IsWake wake.new }
+    ensures place { wake.new.place ≡ place_held result }
 {
     let place = owing.place();
     let (woken, rest) = owing.pay_some();
@@ -81,6 +100,8 @@ fn pay_owing(owing: Owing<u64>, wake: &mut WakeOut) -> Held<u64>
 fn pay_leaving(leaving: Leaving<u64>, wake: &mut WakeOut) -> Held<u64>
     ensures paid { HasPaid wake.new.threads (held.OfLeaving leaving) result }
     ensures rest { wake.new.owes ≡ 0 → IsAtRest result }
+    ensures wake { IsWake wake.new }
+    ensures place { wake.new.place ≡ place_held result }
 {
     let place = leaving.place();
     let (woken, rest) = leaving.pay_some();
@@ -98,7 +119,10 @@ fn pay_leaving(leaving: Leaving<u64>, wake: &mut WakeOut) -> Held<u64>
 
 fn pay_cutter(cutter: Cutter<u64>, wake: &mut WakeOut) -> Held<u64>
     ensures paid { HasPaid wake.new.threads (held.OfCutter cutter) result }
+    ensures retired { HasRetired (held.OfCutter cutter) → HasRetired result }
     ensures rest { wake.new.owes ≡ 0 → IsAtRest result }
+    ensures wake { IsWake wake.new }
+    ensures place { wake.new.place ≡ place_held result }
 {
     let place = cutter.place();
     let (woken, rest) = cutter.pay_some();

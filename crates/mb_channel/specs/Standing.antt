@@ -3,6 +3,7 @@ use Rattle.std.specs.Prelude.{◌≡◌, List, Some, true, false}
 use Rattle.mb_channel.specs.declared.debtor.Debtor.{Debtor}
 use Rattle.mb_channel.specs.declared.debtor.Step.{Step}
 use Rattle.mb_channel.specs.declared.debtor.Step.TheVariants as step
+use Rattle.mb_channel.specs.declared.departing.Departing.{Departing}
 use Rattle.mb_channel.specs.declared.try_sends.Sending.{Sending}
 use Rattle.mb_channel.specs.declared.try_sends.Sending.TheVariants as sending
 use Rattle.mb_channel.specs.declared.channel.Refused.TheVariants.{Closed}
@@ -52,6 +53,10 @@ OfSending (sending.Owes o) x v = OneSent x v (stand_with o.debtor)
 OfSending (sending.Again s y) x v = NoMore v (stand_of s.end) × (y ≡ x)
 OfSending (sending.Refused s n) x v = NoMore v (stand_of s.end) × (n.value ≡ x)
     × IfClosed n.why (IsBehind s.end × ((view_of s.end).shut ≡ true))
+
+-- all is cut that this end has to cut: if no sender is left, it was told that it is behind the last segment
+abbrev pub HasCut : {T : Type 0} → Departing T → Type 0
+HasCut d = d.last ≡ true → IsBehind d.end
 
 -- the send is refused, since the channel is closed
 abbrev pub TellsClosed : {T : Type 0} → Sending T → Type 0

@@ -206,6 +206,10 @@ impl<T: Drop> Busy<T> {
         ensures still { IsStill (work_of self) (work_in result) }
     {
         let mut busy = self;
+        // One that was woken may leave its token to another that sleeps.
+        if busy.debt == Debt::Leave {
+            busy.segment.wake_thread();
+        }
         for _ in rt.forever() {
             if busy.pay_some() {
                 busy.segment.wake_thread();

@@ -1,10 +1,10 @@
 //! Closing a channel without waiting, and the end of a sender or receiver that goes for good.
-ghost use Rattle.std.specs.Prelude.{◌≡◌, false, true, IfErr, IfOk, IfSome};
+ghost use Rattle.std.specs.Prelude.{◌≡◌, false, true, is_some, IfErr, IfNone, IfOk, IfSome, IsOkAnd, Ok};
 ghost use Rattle.mb_segment.specs.Vocabulary.{is_over};
 ghost use Rattle.mb_channel.specs.Homes.{view_in};
 ghost use Rattle.mb_channel.specs.Inside.{account_in, told_in};
-ghost use Rattle.mb_channel.specs.Ends.{IsBehind, SawOver, got_by, sent_by, stand_of, view_of};
-ghost use Rattle.mb_channel.specs.Standing.{NoMore, stand_with};
+ghost use Rattle.mb_channel.specs.Ends.{AreOfOneChannel, IsBehind, SawOver, got_by, sent_by, stand_of, view_of};
+ghost use Rattle.mb_channel.specs.Standing.{HasCut, NoMore, stand_with};
 ghost use Rattle.mb_channel.specs.Wakes.{Tells, one_if, wakes_by, wakes_in, wakes_of, wakes_with};
 ghost use Rattle.mb_channel.specs.Work.{IsThere, work_in, work_of};
 
@@ -66,6 +66,7 @@ impl<T: Drop> End<T> {
             × Tells 0 (wakes_of self) (wakes_of r.0)) }
         ensures owes { IfErr result (λ d. NoMore (stand_of self) (stand_with d)
             × (d.chair ≡ self.chair) × Tells 0 (wakes_of self) (wakes_with d)) }
+        ensures outside { is_some self.inside ≡ false → result ≡ Ok (self, true) }
     {
         if self.inside.is_none() {
             return Ok((self, true));
@@ -111,6 +112,7 @@ impl<T: Drop> End<T> {
             × (r.1 ≡ true → IsBehind r.0) × Tells 0 (wakes_of self) (wakes_of r.0)) }
         ensures owes { IfErr result (λ d. NoMore (stand_of self) (stand_with d)
             × Tells 0 (wakes_of self) (wakes_with d)) }
+        ensures behind { IsBehind self → IsOkAnd result (λ r. IsBehind r.0) }
     {
         let (mut end, cut) = self.try_cut()?;
         if !cut {
@@ -133,6 +135,7 @@ impl<T: Drop> Sender<T> {
             × Tells 0 (wakes_of self.end) (wakes_of r.0.end)) }
         ensures owes { IfErr result (λ o. NoMore (stand_of self.end) (stand_with o.debtor)
             × Tells 0 (wakes_of self.end) (wakes_with o.debtor)) }
+        ensures behind { IsBehind self.end → IsOkAnd result (λ r. IsBehind r.0.end) }
     {
         let Sender { mut end } = self;
         if !end.try_close_list() {
@@ -151,7 +154,7 @@ impl<T: Drop> Sender<T> {
             × Tells 0 (wakes_of self.end) (wakes_of s.end)) }
         ensures gone { IfOk result (λ d. ((view_of d.end).sends ≡ 0)
             × (d.last ≡ (view_of d.end).alone) × (sent_by d.end ≡ sent_by self.end)
-            × (got_by d.end ≡ got_by self.end)
+            × (got_by d.end ≡ got_by self.end) × AreOfOneChannel self.end d.end
             × Tells 0 (wakes_of self.end) (wakes_of d.end)) }
     {
         let Sender { mut end } = self;
@@ -174,16 +177,19 @@ impl<T: Drop> Receiver<T> {
 
 impl<T: Drop> Departing<T> {
     /// Tries to go: leaves the segment where the end is, and before that cuts all segments if no sender is left. `Ok`
-    /// has `None` once it has gone. Else the lock is taken, or there are further segments: yield, and try again. In
-    /// `Err` receivers may have to be woken: pay, and try again.
+    /// has `None` once it has gone. That takes a call more after all is cut. Else the lock is taken, or there are
+    /// further segments: yield, and try again. In `Err` receivers may have to be woken: pay, and try again.
     pub fn try_go(self) -> Result<Option<Departing<T>>, Cutter<T>>
         ensures rest { IfOk result (λ o. IfSome o (λ d. NoMore (stand_of self.end) (stand_of d.end)
             × (d.last ≡ self.last) × Tells 0 (wakes_of self.end) (wakes_of d.end))) }
         ensures owes { IfErr result (λ c. NoMore (stand_of self.end) (stand_with c.debtor)
             × (self.last ≡ true) × Tells 0 (wakes_of self.end) (wakes_with c.debtor)) }
+        ensures gone { IfOk result (λ o. IfNone o (HasCut self)) }
+        ensures knows { self.last ≡ (view_of self.end).alone
+            → IfOk result (λ o. IfSome o (λ d. d.last ≡ (view_of d.end).alone)) }
     {
         let Departing { end, last } = self;
-        if !last {
+        if !last || end.behind {
             return match end.try_outside() {
                 Ok(gone) => {
                     drop(gone);
@@ -193,11 +199,7 @@ impl<T: Drop> Departing<T> {
             };
         }
         match end.cut_some() {
-            Ok((end, true)) => {
-                drop(end);
-                Ok(None)
-            }
-            Ok((end, false)) => Ok(Some(Departing { end, last })),
+            Ok((end, _)) => Ok(Some(Departing { end, last })),
             Err(debtor) => Err(Cutter { debtor }),
         }
     }
@@ -217,6 +219,8 @@ impl<T: Drop> Cutter<T> {
             × (d.last ≡ true) × Tells (one_if result.0) (wakes_with self.debtor) (wakes_of d.end)) }
         ensures owes { IfErr result.1 (λ c. NoMore (stand_with self.debtor) (stand_with c.debtor)
             × Tells (one_if result.0) (wakes_with self.debtor) (wakes_with c.debtor)) }
+        ensures place { IfOk result.1 (λ d. d.end.chair ≡ self.debtor.chair) }
+        ensures place_owing { IfErr result.1 (λ c. c.debtor.chair ≡ self.debtor.chair) }
     {
         let Cutter { debtor } = self;
         let (wakes, rest) = debtor.pay_some();

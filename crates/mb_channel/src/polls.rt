@@ -104,7 +104,8 @@ impl<T: Drop> Asleep<T> {
     }
 
     /// Takes a token, if one is there, and looks. Else it sleeps on. If another end was first at the list, a token may be
-    /// there. Then the answer is [`Polled::Owes`], and the receiver no longer waits.
+    /// there. Then the answer is [`Polled::Owes`], and the receiver no longer waits. The token for which the thread was
+    /// woken may still be in the list: [`Leaving::pay`] wakes one more thread for it.
     pub fn wake_up(self) -> Polled<T>
         ensures answer { OfPolled result (stand_with self.debtor)
             (λ a. Unit {0}) (λ r why. ⊥) }
@@ -151,7 +152,8 @@ impl<T: Drop> Leaving<T> {
 
     /// Tries to leave the list, or to give a token, and wakes nobody. The answer has `true` once for each token that was
     /// given. The caller then has to wake a thread that sleeps at the same place, or else all that sleep in the channel.
-    /// The receiver comes back once it owes nothing more.
+    /// The receiver comes back once it owes nothing more. After [`Asleep::wake_up`] answered [`Polled::Owes`], its caller
+    /// has to wake one more thread at that place.
     pub fn pay_some(self) -> (bool, Result<Receiver<T>, Leaving<T>>)
         ensures paid { IfOk result.1 (λ r. NoMore (stand_with self.debtor) (stand_of r.end)) }
         ensures owes { IfErr result.1 (λ l. NoMore (stand_with self.debtor) (stand_with l.debtor)) }
@@ -160,6 +162,8 @@ impl<T: Drop> Leaving<T> {
         ensures still { IfErr result.1
             (λ l. Tells (one_if result.0) (wakes_with self.debtor) (wakes_with l.debtor)
             × ((wakes_with l.debtor).untold ≡ 0)) }
+        ensures place { IfOk result.1 (λ r. r.end.chair ≡ self.debtor.chair) }
+        ensures place_owing { IfErr result.1 (λ l. l.debtor.chair ≡ self.debtor.chair) }
     {
         let Leaving { debtor } = self;
         let (wakes, rest) = debtor.pay_some();

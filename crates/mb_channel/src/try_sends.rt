@@ -92,6 +92,8 @@ impl<T: Drop> Owing<T> {
         ensures still { IfErr result.1
             (λ o. Tells (one_if result.0) (wakes_with self.debtor) (wakes_with o.debtor)
             × ((wakes_with o.debtor).untold ≡ 0)) }
+        ensures place { IfOk result.1 (λ s. s.end.chair ≡ self.debtor.chair) }
+        ensures place_owing { IfErr result.1 (λ o. o.debtor.chair ≡ self.debtor.chair) }
     {
         let Owing { debtor } = self;
         let (wakes, rest) = debtor.pay_some();
