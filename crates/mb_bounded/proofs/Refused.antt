@@ -8,9 +8,10 @@ use Rattle.mb_segment.specs.declared.view.Spot.{Spot as Position}
 use Rattle.mb_segment.specs.Vocabulary.{nothing_done}
 use Rattle.mb_ring.specs.Vocabulary.{blank}
 use Rattle.mb_bounded.specs.BoundedSamples.{having, sent_ten, two_ends}
-use Rattle.mb_bounded.specs.Desks.{HasCounted, IsFree, IsHeld, Keeps, first_view, newcomer}
-use Rattle.mb_bounded.specs.Ends.{HasCut, NoMore, OneGot, OneSent}
-use Rattle.mb_bounded.specs.Types.{Account, Desk, Global, Knows, Ring}
+use Rattle.mb_bounded.specs.Desks.{HasCounted, HasHired, HasRetired, IsFree, IsHeld, Keeps, first_view, knows, locked, newcomer, settled, splits_off}
+use Rattle.mb_bounded.specs.Ends.{HasCut, IsSame, NoMore, OneGot, OneSent}
+use Rattle.mb_bounded.specs.Types.{Account, Desk, Global, Knows, Ring, Seat}
+use Rattle.mb_bounded.specs.declared.end.End.{End}
 use Rattle.mb_bounded.proofs.DeskMoves.{holder}
 
 pub deserted : (r : Ring ℕ Global) (d : Desk ℕ) → d.senders ≡ 0
@@ -42,6 +43,22 @@ out_ r k = let h = holder r record { words = 1 ∷ []; homes = none ∷ []; view
 
 pub before : (v : Knows ℕ) → HasCounted v v v.senders v.receivers → ⊥
 before v h = let e : v.looks ≡ v.looks + 1 = ap (λ (z : Knows ℕ). z.looks) h.3 in omega arith
+
+pub phantom : (d e : Desk ℕ) (v : Knows ℕ) (m n : ℕ) → e.senders ≡ d.senders + 1
+    → HasCounted v (splits_off 1 0 (settled e (locked d v))) m n → ⊥
+phantom d e v m n more h =
+    let found : d.senders ≡ h.0.senders = ap (λ (z : Knows ℕ). z.senders) h.3 in
+    let left : e.senders ≡ h.0.senders = ap (λ (z : Knows ℕ). z.left_senders) h.3 in absurd (omega arith)
+
+pub not_hired : (d : Desk ℕ) (v : Knows ℕ) → HasHired 1 0 v (settled d (locked d v)) → ⊥
+not_hired d v h = let e : d.senders ≡ d.senders + 1 = h.1 in absurd (omega arith)
+
+pub split_off : (d : Desk ℕ) (v : Knows ℕ) → HasRetired 1 0 v (splits_off 1 0 (settled d (locked d v))) → ⊥
+split_off d v h = let e : d.senders ≡ d.senders + 1 = h.1 in absurd (omega arith)
+
+pub there : (e f : End ℕ) → (knows f.chair).looks ≡ (knows e.chair).looks + 1 → IsSame e f → ⊥
+there e f more same = let as_many : (knows f.chair).looks ≡ (knows e.chair).looks =
+    ap (λ (c : Seat (Option (Desk ℕ)) (Knows ℕ)). (knows c).looks) same.1 in absurd (omega arith)
 
 abbrev first_value : List (Position ℕ) → ℕ
 first_value [] = 0

@@ -84,6 +84,8 @@ newcomer r a b = record {
   looks = 0;
   senders = 0;
   receivers = 0;
+  left_senders = 0;
+  left_receivers = 0;
   no_sender = false;
   no_receiver = false;
 }
@@ -99,14 +101,14 @@ splits_off a b v = record v { sends = v.sends - a; receives = v.receives - b }
 abbrev pub locked : {T : Type 0} → Desk T → Knows T → Knows T
 locked d v = record v { holds = true; looks = v.looks + 1; senders = d.senders; receivers = d.receivers }
 
--- it gives the desk back, and counts for as many more or less as that does
+-- it gives the desk back, and counts for as many more or less as that does. It still knows what it found
 abbrev pub settled : {T : Type 0} → Desk T → Knows T → Knows T
 settled d v = record v {
   sends = v.sends + d.senders - v.senders;
   receives = v.receives + d.receivers - v.receivers;
   holds = false;
-  senders = d.senders;
-  receivers = d.receivers;
+  left_senders = d.senders;
+  left_receivers = d.receivers;
   no_sender = v.no_sender || nat_eq d.senders 0;
   no_receiver = v.no_receiver || nat_eq d.receivers 0;
 }
@@ -141,6 +143,16 @@ HasTaken m = (m.0.holds ≡ true) × (m.1 ≡ (0, None) ∷ [])
 -- it counts for as many, and for the same ring
 abbrev pub IsAsBefore : {T : Type 0} → Knows T → Knows T → Type 0
 IsAsBefore v w = (w.ring ≡ v.ring) × (w.sends ≡ v.sends) × (w.receives ≡ v.receives)
+
+-- it took the lock once more, and left so many senders and receivers more than it found
+abbrev pub HasHired : {T : Type 0} → ℕ → ℕ → Knows T → Knows T → Type 0
+HasHired a b v w = (w.looks ≡ v.looks + 1)
+    × (w.left_senders ≡ w.senders + a) × (w.left_receivers ≡ w.receivers + b)
+
+-- it took the lock once more, and left so many fewer
+abbrev pub HasRetired : {T : Type 0} → ℕ → ℕ → Knows T → Knows T → Type 0
+HasRetired a b v w = (w.looks ≡ v.looks + 1)
+    × (w.senders ≡ w.left_senders + a) × (w.receivers ≡ w.left_receivers + b)
 
 -- it took the lock once more, found a desk with these numbers, and gave that back
 abbrev pub HasCounted : {T : Type 0} → Knows T → Knows T → ℕ → ℕ → Type 0

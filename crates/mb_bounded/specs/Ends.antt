@@ -2,6 +2,7 @@
 use Rattle.std.specs.Prelude.{ℕ, true, ◌+◌, ◌<◌, ◌≡◌, ◌≤◌, ◌⊎◌}
 use Rattle.mb_ring.specs.Vocabulary.{SawEmpty, SawFull, blank, did_cut, got_at, sent_at, view_in}
 use Rattle.mb_bounded.specs.Types.{Account, Global, Ring, View, arc_value}
+use Rattle.mb_bounded.specs.Desks.{knows}
 use Rattle.mb_bounded.specs.declared.end.End.{End}
 use Rattle.mb_bounded.specs.declared.end.Past.{Past}
 use Rattle.mb_bounded.specs.declared.end.Receiver.{Receiver}
@@ -24,16 +25,20 @@ abbrev pub IsPastOf : {T : Type 0} → End T → Past T → Type 0
 IsPastOf e p = p.pass.seat.table_id ≡ (ring_of e).table.shared.table_id
 
 -- the same end, later
+abbrev pub IsOne : {T : Type 0} → End T → End T → Type 0
+IsOne old new = (new.hall ≡ old.hall) × (new.pass.seat.id ≡ old.pass.seat.id)
+
+-- the same end, which was not at the desk meanwhile: it made no end, and counts for as many
 abbrev pub IsSame : {T : Type 0} → End T → End T → Type 0
-IsSame old new = (new.hall ≡ old.hall) × (new.pass.seat.id ≡ old.pass.seat.id)
+IsSame old new = IsOne old new × (new.chair ≡ old.chair)
 
 -- ---- what it did
 abbrev pub view_of : {T : Type 0} → End T → View T
 view_of e = view_in e.pass
 
--- the same end, which did nothing meanwhile
+-- the same end, which did nothing in the ring meanwhile
 abbrev pub IsStill : {T : Type 0} → End T → End T → Type 0
-IsStill old new = IsSame old new × (view_of new ≡ view_of old)
+IsStill old new = IsOne old new × (view_of new ≡ view_of old)
 
 abbrev pub past_view : {T : Type 0} → Past T → View T
 past_view p = p.pass.seat.me.0
@@ -44,9 +49,9 @@ account_of e = (view_of e).account
 abbrev pub past_account : {T : Type 0} → Past T → Account T
 past_account p = (past_view p).account
 
--- it did nothing
+-- it did nothing in the ring, and was never at the desk
 abbrev pub IsFresh : {T : Type 0} → End T → Type 0
-IsFresh e = view_of e ≡ blank
+IsFresh e = (view_of e ≡ blank) × ((knows e.chair).looks ≡ 0)
 
 -- of two views of a pass: meanwhile it sent x, behind all that it had sent, and did nothing else
 abbrev pub OneSent : {T : Type 0} → T → View T → View T → Type 0

@@ -8,7 +8,7 @@ use std::sync::Wait;
 
 impl<T: Drop> End<T> {
     fn len<R: Wait>(&mut self, rt: &R) -> u64
-        ensures end { IsSame self.old self.new × (self.new.chair ≡ self.old.chair) }
+        ensures end { IsSame self.old self.new }
         ensures looked { HasLooked (bound_of self.old) result (view_of self.old)
             (view_of self.new) }
         ensures cut { (view_of self.new).sight.cut ≡ (view_of self.old).sight.cut }

@@ -1,7 +1,7 @@
 //! The end of a channel, which tells its whole life.
 ghost use Rattle.std.specs.Prelude.{All, IfErr, IfOk, List, length, map, ◌+◌, ◌++◌, ◌∷◌, ◌≡◌, ◌≤◌};
 ghost use Rattle.mb_ring.specs.Vocabulary.{HasLeft, Issuer, hub_view};
-ghost use Rattle.mb_bounded.specs.Desks.{IsAsBefore, knows};
+ghost use Rattle.mb_bounded.specs.Desks.{HasHired, IsAsBefore, knows};
 ghost use Rattle.mb_bounded.specs.Ends.{IsPastOf, IsStill, account_of, past_account};
 ghost use Rattle.mb_bounded.specs.Lives.{IsLife};
 
@@ -51,7 +51,8 @@ impl<T: Drop> End<T> {
         ensures whole { IfOk result (λ l. (left : List T) × HasLeft l left
             × IsLife (account_of self ∷ map past_account others.items) left) }
         ensures back { IfErr result (λ e. IsStill self e.end
-            × IsAsBefore (knows self.chair) (knows e.end.chair) × (e.others ≡ others)) }
+            × IsAsBefore (knows self.chair) (knows e.end.chair)
+            × HasHired 0 0 (knows self.chair) (knows e.end.chair) × (e.others ≡ others)) }
     {
         let (hall, mut chair, pass) = self.parts();
         let desk = hall.office.take(rt, &mut chair);
@@ -99,8 +100,9 @@ impl<T: Drop> Sender<T> {
         requires others { All (IsPastOf self.end) others.items }
         ensures whole { IfOk result (λ l. (left : List T) × HasLeft l left
             × IsLife (account_of self.end ∷ map past_account others.items) left) }
-        ensures back { IfErr result (λ e. IsStill self.end e.end.end × (e.others ≡ others)
-            × (e.end.closed ≡ self.closed)) }
+        ensures back { IfErr result (λ e. IsStill self.end e.end.end
+            × HasHired 0 0 (knows self.end.chair) (knows e.end.end.chair)
+            × (e.others ≡ others) × (e.end.closed ≡ self.closed)) }
     {
         let Sender { end, closed } = self;
         match end.end(rt, others) {
@@ -123,8 +125,9 @@ impl<T: Drop> Receiver<T> {
         requires others { All (IsPastOf self.end) others.items }
         ensures whole { IfOk result (λ l. (left : List T) × HasLeft l left
             × IsLife (account_of self.end ∷ map past_account others.items) left) }
-        ensures back { IfErr result (λ e. IsStill self.end e.end.end × (e.others ≡ others)
-            × (e.end.over ≡ self.over)) }
+        ensures back { IfErr result (λ e. IsStill self.end e.end.end
+            × HasHired 0 0 (knows self.end.chair) (knows e.end.end.chair)
+            × (e.others ≡ others) × (e.end.over ≡ self.over)) }
     {
         let Receiver { end, over } = self;
         match end.end(rt, others) {

@@ -1,6 +1,6 @@
 //! Closing a channel, and giving ends back. The last end of a side closes the channel.
 ghost use Rattle.std.specs.Prelude.{false, true, ◌+◌, ◌<◌, ◌≡◌, ◌≤◌};
-ghost use Rattle.mb_bounded.specs.Desks.{knows};
+ghost use Rattle.mb_bounded.specs.Desks.{HasRetired, knows};
 ghost use Rattle.mb_bounded.specs.Ends.{HasCut, IsClosed, IsPastOf, IsSame, NoMore, past_view, view_of};
 
 use crate::end::{End, Past, Receiver, Sender};
@@ -10,7 +10,7 @@ use std::sync::Wait;
 impl<T: Drop> End<T> {
     /// Closes the channel, and wakes all that sleep.
     fn close<R: Wait>(&mut self, rt: &R)
-        ensures end { IsSame self.old self.new × (self.new.chair ≡ self.old.chair) }
+        ensures end { IsSame self.old self.new }
         ensures cut { HasCut (view_of self.old) (view_of self.new) }
         ensures over { (view_of self.new).over ≡ (view_of self.old).over }
     {
@@ -24,12 +24,15 @@ impl<T: Drop> End<T> {
         ensures channel { IsPastOf self result }
         ensures less { ((knows result.chair).sends + S.sends ≡ (knows self.chair).sends)
             × ((knows result.chair).receives + S.receives ≡ (knows self.chair).receives) }
+        ensures retired { HasRetired S.sends S.receives (knows self.chair) (knows result.chair) }
         ensures last { result.last ≡ true → HasCut (view_of self) (past_view result)
-            × (S.sends ≡ 1 → (knows result.chair).no_sender ≡ true)
-            × (S.receives ≡ 1 → (knows result.chair).no_receiver ≡ true) }
+            × (S.sends ≡ 1 → ((knows result.chair).no_sender ≡ true)
+            × ((knows result.chair).left_senders ≡ 0))
+            × (S.receives ≡ 1 → ((knows result.chair).no_receiver ≡ true)
+            × ((knows result.chair).left_receivers ≡ 0)) }
         ensures others { result.last ≡ false → NoMore (view_of self) (past_view result)
-            × (S.sends ≡ 1 → 0 < (knows result.chair).senders)
-            × (S.receives ≡ 1 → 0 < (knows result.chair).receivers) }
+            × (S.sends ≡ 1 → 0 < (knows result.chair).left_senders)
+            × (S.receives ≡ 1 → 0 < (knows result.chair).left_receivers) }
     {
         let (hall, mut chair, mut pass) = self.parts();
         let last = hall.office.retire::<S, R>(rt, &mut chair);
@@ -61,10 +64,12 @@ impl<T: Drop> Sender<T> {
     pub fn retire<R: Wait>(self, rt: &R) -> Past<T>
         ensures channel { IsPastOf self.end result }
         ensures gone { ((knows result.chair).sends ≡ 0) × ((knows result.chair).receives ≡ 0) }
+        ensures retired { HasRetired 1 0 (knows self.end.chair) (knows result.chair) }
         ensures last { result.last ≡ true → HasCut (view_of self.end) (past_view result)
-            × ((knows result.chair).no_sender ≡ true) }
+            × ((knows result.chair).no_sender ≡ true)
+            × ((knows result.chair).left_senders ≡ 0) }
         ensures others { result.last ≡ false → NoMore (view_of self.end) (past_view result)
-            × (0 < (knows result.chair).senders) }
+            × (0 < (knows result.chair).left_senders) }
     {
         let Sender { end, closed: _ } = self;
         end.retire::<AsSender, R>(rt)
@@ -85,10 +90,12 @@ impl<T: Drop> Receiver<T> {
     pub fn retire<R: Wait>(self, rt: &R) -> Past<T>
         ensures channel { IsPastOf self.end result }
         ensures gone { ((knows result.chair).sends ≡ 0) × ((knows result.chair).receives ≡ 0) }
+        ensures retired { HasRetired 0 1 (knows self.end.chair) (knows result.chair) }
         ensures last { result.last ≡ true → HasCut (view_of self.end) (past_view result)
-            × ((knows result.chair).no_receiver ≡ true) }
+            × ((knows result.chair).no_receiver ≡ true)
+            × ((knows result.chair).left_receivers ≡ 0) }
         ensures others { result.last ≡ false → NoMore (view_of self.end) (past_view result)
-            × (0 < (knows result.chair).receivers) }
+            × (0 < (knows result.chair).left_receivers) }
     {
         let Receiver { end, over: _ } = self;
         end.retire::<AsReceiver, R>(rt)

@@ -1,5 +1,6 @@
 //! A channel is made, and ends are made from one another.
-ghost use Rattle.std.specs.Prelude.{IfOk, IfSome, ◌<◌, ◌≡◌};
+ghost use Rattle.std.specs.Prelude.{IfNone, IfOk, IfSome, ◌<◌, ◌≡◌, ◌⊎◌};
+ghost use Rattle.mb_bounded.specs.Desks.{HasHired, knows};
 ghost use Rattle.mb_bounded.specs.Ends.{IsFresh, IsMate, IsStill, bound_of};
 
 use crate::end::{End, Receiver, Sender};
@@ -55,6 +56,10 @@ impl<T: Drop> Sender<T> {
     pub fn another_sender<R: Wait>(&mut self, rt: &R) -> Option<Sender<T>>
         ensures same { IsStill self.old.end self.new.end × (self.new.closed ≡ self.old.closed) }
         ensures new { IfSome result (λ s. IsMate self.old.end s.end × IsFresh s.end) }
+        ensures hired { IfSome result
+            (λ _. HasHired 1 0 (knows self.old.end.chair) (knows self.new.end.chair)) }
+        ensures none { IfNone result ((self.new ≡ self.old)
+            ⊎ HasHired 0 0 (knows self.old.end.chair) (knows self.new.end.chair)) }
     {
         let hall = Arc::try_clone(&self.end.hall).ok()?;
         let end = &mut self.end;
@@ -73,6 +78,10 @@ impl<T: Drop> Receiver<T> {
     pub fn another_receiver<R: Wait>(&mut self, rt: &R) -> Option<Receiver<T>>
         ensures same { IsStill self.old.end self.new.end × (self.new.over ≡ self.old.over) }
         ensures new { IfSome result (λ r. IsMate self.old.end r.end × IsFresh r.end) }
+        ensures hired { IfSome result
+            (λ _. HasHired 0 1 (knows self.old.end.chair) (knows self.new.end.chair)) }
+        ensures none { IfNone result ((self.new ≡ self.old)
+            ⊎ HasHired 0 0 (knows self.old.end.chair) (knows self.new.end.chair)) }
     {
         let hall = Arc::try_clone(&self.end.hall).ok()?;
         let end = &mut self.end;

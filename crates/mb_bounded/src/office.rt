@@ -20,9 +20,9 @@ pub struct Office<T: Drop> {
 }
 
 impl<T: Drop> Office<T> {
-    ghost use Rattle.std.specs.Prelude.{None, false, true, IfSome, ◌+◌, ◌<◌, ◌≤◌};
+    ghost use Rattle.std.specs.Prelude.{None, false, true, IfNone, IfSome, ◌+◌, ◌<◌, ◌≤◌};
     ghost use Rattle.mb_ring.specs.Vocabulary.{hub_view};
-    ghost use Rattle.mb_bounded.specs.Desks.{Finds, HasCounted, HasTaken, IsAsBefore, IsNewPass, IsReady, MayGive, first_view, issued_so};
+    ghost use Rattle.mb_bounded.specs.Desks.{Finds, HasCounted, HasHired, HasRetired, HasTaken, IsAsBefore, IsNewPass, IsReady, MayGive, first_view, issued_so};
     ghost use Rattle.mb_bounded.specs.Desks.{knows, locked, newcomer, settled, splits_off};
 
     /// The desk of this ring, whose hub issued the passes of a sender and a receiver. The first chair counts for both.
@@ -134,6 +134,9 @@ impl<T: Drop> Office<T> {
         ensures chair { IfSome result (λ r. (r.0.table_id ≡ chair.old.table_id)
             × (r.0.me ≡ (newcomer ring.now S.sends S.receives, []))) }
         ensures pass { IfSome result (λ r. IsNewPass ring.now r.1) }
+        ensures hired { IfSome result
+            (λ _. HasHired S.sends S.receives (knows chair.old) (knows chair.new)) }
+        ensures none { IfNone result (HasHired 0 0 (knows chair.old) (knows chair.new)) }
     {
         let mut desk = self.take(rt, chair);
         let pass = desk.hire::<S>(ring);
@@ -152,10 +155,13 @@ impl<T: Drop> Office<T> {
         ensures ready { IsReady chair.new.me }
         ensures less { ((knows chair.new).sends + S.sends ≡ (knows chair.old).sends)
             × ((knows chair.new).receives + S.receives ≡ (knows chair.old).receives) }
-        ensures last { result ≡ true → (S.sends ≡ 1 → (knows chair.new).no_sender ≡ true)
-            × (S.receives ≡ 1 → (knows chair.new).no_receiver ≡ true) }
-        ensures others { result ≡ false → (S.sends ≡ 1 → 0 < (knows chair.new).senders)
-            × (S.receives ≡ 1 → 0 < (knows chair.new).receivers) }
+        ensures retired { HasRetired S.sends S.receives (knows chair.old) (knows chair.new) }
+        ensures last { result ≡ true → (S.sends ≡ 1 → ((knows chair.new).no_sender ≡ true)
+            × ((knows chair.new).left_senders ≡ 0))
+            × (S.receives ≡ 1 → ((knows chair.new).no_receiver ≡ true)
+            × ((knows chair.new).left_receivers ≡ 0)) }
+        ensures others { result ≡ false → (S.sends ≡ 1 → 0 < (knows chair.new).left_senders)
+            × (S.receives ≡ 1 → 0 < (knows chair.new).left_receivers) }
     {
         let mut desk = self.take(rt, chair);
         let last = desk.retire::<S>();

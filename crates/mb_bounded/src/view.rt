@@ -11,9 +11,12 @@ pub struct Knows<T: Drop> {
     /// Whether it has the lock, and how often it took it.
     pub holds: bool,
     pub looks: u64,
-    /// How many senders and receivers there were when it took the lock, or gave it back.
+    /// How many senders and receivers it found when it took the lock.
     pub senders: u64,
     pub receivers: u64,
+    /// How many it left when it gave the lock back.
+    pub left_senders: u64,
+    pub left_receivers: u64,
     /// Whether it saw that no sender, or no receiver, is left.
     pub no_sender: bool,
     pub no_receiver: bool,
