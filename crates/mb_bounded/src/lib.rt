@@ -10,8 +10,6 @@
 #![tactic(auto)]
 
 mod counting;
-#[cfg(test)]
-mod crowd_tests;
 mod desk;
 mod end;
 mod ending;
@@ -24,8 +22,6 @@ mod receives;
 mod rule;
 pub mod samples;
 mod sends;
-#[cfg(test)]
-mod tests;
 mod view;
 
 pub use end::{Past, Receiver, Sender};

@@ -19,8 +19,6 @@ mod answers;
 mod attempt;
 mod busy;
 mod channel;
-#[cfg(test)]
-mod closing_tests;
 mod cutting;
 mod debtor;
 mod departing;
@@ -45,20 +43,12 @@ mod rest;
 mod rule;
 pub mod samples;
 mod sends;
-#[cfg(test)]
-mod sleep_tests;
 mod stuck;
 mod telling;
-#[cfg(test)]
-mod telling_tests;
-#[cfg(test)]
-mod tests;
 mod tried;
 mod try_sends;
 mod view;
 mod visits;
-#[cfg(test)]
-mod way_tests;
 
 pub use answers::{Came, Retired};
 pub use channel::Refused;

@@ -49,8 +49,6 @@ mod rule;
 pub mod samples;
 mod sending;
 mod sends;
-#[cfg(test)]
-mod tests;
 mod view;
 mod waiting;
 mod words;

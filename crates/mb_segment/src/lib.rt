@@ -48,8 +48,6 @@ pub mod samples;
 mod segment;
 mod sending;
 mod soon;
-#[cfg(test)]
-mod tests;
 mod view;
 mod waiting;
 mod words;
