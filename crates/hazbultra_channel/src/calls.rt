@@ -6,7 +6,8 @@ ghost use Rattle.mb_channel.specs.declared.held.Held.TheVariants as held;
 ghost use Rattle.hazbultra_channel.specs.Ends.{EndMade, EndWent, FellAsleep, FoundNothing, Got, GotNothing};
 ghost use Rattle.hazbultra_channel.specs.Ends.{IsAsleep, IsAtRest, IsNoWake, IsReceiving, IsRefusal, IsSending, IsWake};
 ghost use Rattle.hazbultra_channel.specs.Ends.{OnlyTold, ReceivesInVain, SendsInVain, WasTold, place_held, stand_held, wakes_held};
-ghost use Rattle.hazbultra_channel.specs.declared.codes.TheConstants.{AGAIN, BAD_HANDLE, CLOSED, DONE, NOTHING, SLEEPS, TOOK};
+ghost use Rattle.hazbultra_channel.specs.declared.codes.TheConstants.{AGAIN, BAD_HANDLE, CLOSED, CROWDED, DONE};
+ghost use Rattle.hazbultra_channel.specs.declared.codes.TheConstants.{NOTHING, SLEEPS, TOOK};
 
 use crate::codes::{AGAIN, BAD_HANDLE, DONE, NOTHING, SLEEPS, TOOK, code_of};
 use crate::handle::End;
@@ -107,7 +108,7 @@ pub extern "C" fn hz_channel_receive(receiver: &mut End, value: &mut u64, wake: 
     ensures still { result ≢ BAD_HANDLE → EndMade IsReceiving receiver.new.block.thing }
     ensures kept { result ≢ TOOK → value.new ≡ value.old }
     ensures codes { (result ≡ TOOK) ⊎ (result ≡ SLEEPS) ⊎ (result ≡ AGAIN)
-        ⊎ IsRefusal result ⊎ (result ≡ BAD_HANDLE) }
+        ⊎ (result ≡ CLOSED) ⊎ (result ≡ CROWDED) ⊎ (result ≡ BAD_HANDLE) }
     ensures wake { IsWake wake.new }
     ensures no_wake { (result ≡ BAD_HANDLE) ⊎ (result ≡ SLEEPS) → IsNoWake wake.new }
 {
@@ -144,7 +145,7 @@ fn receive(receiver: Receiver<u64>, value: &mut u64, wake: &mut WakeOut) -> (Hel
     ensures still_closed { WasTold (held.OfReceiver receiver) → result.1 ≡ CLOSED }
     ensures rest { result.1 ≢ SLEEPS → wake.new.owes ≡ 0 → IsAtRest result.0 }
     ensures codes { (result.1 ≡ TOOK) ⊎ (result.1 ≡ SLEEPS) ⊎ (result.1 ≡ AGAIN)
-        ⊎ IsRefusal result.1 }
+        ⊎ (result.1 ≡ CLOSED) ⊎ (result.1 ≡ CROWDED) }
     ensures receiving { IsReceiving result.0 }
     ensures kept { result.1 ≢ TOOK → value.new ≡ value.old }
     ensures wake { IsWake wake.new }
@@ -223,7 +224,7 @@ pub extern "C" fn hz_channel_try_receive(receiver: &mut End, value: &mut u64) ->
     ensures same { result ≡ BAD_HANDLE → receiver.new.block.thing ≡ receiver.old.block.thing }
     ensures kept { result ≢ TOOK → value.new ≡ value.old }
     ensures codes { (result ≡ TOOK) ⊎ (result ≡ NOTHING) ⊎ (result ≡ AGAIN)
-        ⊎ IsRefusal result ⊎ (result ≡ BAD_HANDLE) }
+        ⊎ (result ≡ CLOSED) ⊎ (result ≡ CROWDED) ⊎ (result ≡ BAD_HANDLE) }
 {
     let Some(opened) = receiver.lend() else {
         return BAD_HANDLE;
@@ -249,7 +250,7 @@ fn try_receive(receiver: Receiver<u64>, value: &mut u64) -> (Held<u64>, u32)
     ensures closed { result.1 ≡ CLOSED → WasTold result.0 }
     ensures still_closed { WasTold (held.OfReceiver receiver) → result.1 ≡ CLOSED }
     ensures codes { (result.1 ≡ TOOK) ⊎ (result.1 ≡ NOTHING) ⊎ (result.1 ≡ AGAIN)
-        ⊎ IsRefusal result.1 }
+        ⊎ (result.1 ≡ CLOSED) ⊎ (result.1 ≡ CROWDED) }
     ensures kept { result.1 ≢ TOOK → value.new ≡ value.old }
 {
     let mut receiver = receiver;

@@ -2,7 +2,7 @@
 ghost use Rattle.std.specs.Prelude.{◌≡◌, ◌≢◌, ◌↔◌};
 ghost use Rattle.mb_channel.specs.declared.channel.Refused.TheVariants as refused;
 ghost use Rattle.hazbultra_channel.specs.Ends.{IsRefusal};
-ghost use Rattle.hazbultra_channel.specs.declared.codes.TheConstants.{CLOSED};
+ghost use Rattle.hazbultra_channel.specs.declared.codes.TheConstants.{CLOSED, NO_MEMORY};
 
 use mb_channel::Refused;
 
@@ -27,6 +27,7 @@ pub(crate) const CROWDED: u32 = 22;
 /// The code of the reason for which a call was refused.
 pub(crate) fn code_of(why: Refused) -> u32
     ensures closed { (result ≡ CLOSED) ↔ (why ≡ refused.Closed) }
+    ensures memory { (result ≡ NO_MEMORY) ↔ (why ≡ refused.NoMemory) }
     ensures codes { IsRefusal result }
 {
     match why {

@@ -1,5 +1,5 @@
 -- What a receive that never waits came to.
-use Rattle.std.specs.Prelude.{◌≡◌, true}
+use Rattle.std.specs.Prelude.{◌≡◌, ◌≢◌, true}
 use Rattle.mb_channel.specs.declared.channel.Refused.{Refused}
 use Rattle.mb_channel.specs.declared.debtor.Debtor.{Debtor}
 use Rattle.mb_channel.specs.declared.end.Receiver.{Receiver}
@@ -8,7 +8,7 @@ use Rattle.mb_channel.specs.declared.heard.Heard.TheVariants as heard
 use Rattle.mb_channel.specs.declared.polls.Asleep.{Asleep}
 use Rattle.mb_channel.specs.declared.polls.Polled.{Polled}
 use Rattle.mb_channel.specs.declared.polls.Polled.TheVariants as polled
-use Rattle.mb_channel.specs.declared.channel.Refused.TheVariants.{Closed}
+use Rattle.mb_channel.specs.declared.channel.Refused.TheVariants.{Closed, NoMemory}
 use Rattle.mb_channel.specs.Ends.{Standing, stand_of}
 use Rattle.mb_channel.specs.Standing.{NoMore, OneGot, stand_with}
 use Rattle.mb_channel.specs.Work.{IsAwake, Sleeps}
@@ -37,3 +37,12 @@ PollClosed (polled.Sleeps a) = ⊥
 PollClosed (polled.Again r) = ⊥
 PollClosed (polled.Owes l) = ⊥
 PollClosed (polled.Refused r why) = why ≡ Closed
+
+-- no receive is refused for want of memory
+abbrev pub IsNotForMemory : {T : Type 0} → Polled T → Type 0
+IsNotForMemory (polled.Took r x) = Unit {0}
+IsNotForMemory (polled.TookOwing l x) = Unit {0}
+IsNotForMemory (polled.Sleeps a) = Unit {0}
+IsNotForMemory (polled.Again r) = Unit {0}
+IsNotForMemory (polled.Owes l) = Unit {0}
+IsNotForMemory (polled.Refused r why) = why ≢ NoMemory

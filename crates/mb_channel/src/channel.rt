@@ -18,8 +18,8 @@ pub enum Refused {
 }
 
 impl<T: Drop> End<T> {
-    ghost use Rattle.std.specs.Prelude.{◌≡◌, ◌<◌, true, false, is_some, Err, IfErr, IfOk};
-    ghost use Rattle.mb_channel.specs.declared.channel.Refused.TheVariants.{Closed};
+    ghost use Rattle.std.specs.Prelude.{◌≡◌, ◌≢◌, ◌<◌, true, false, is_some, Err, IfErr, IfOk};
+    ghost use Rattle.mb_channel.specs.declared.channel.Refused.TheVariants.{Closed, NoMemory};
     ghost use Rattle.mb_channel.specs.Answers.{IfClosed};
     ghost use Rattle.mb_channel.specs.Receives.{FoundNone};
     ghost use Rattle.mb_channel.specs.Ends.{IsBehind, IsOver, IsSame, SawOver, got_by, sent_by, stand_of, view_of};
@@ -39,6 +39,7 @@ impl<T: Drop> End<T> {
             → FoundNone (stand_of self.old) (stand_of self.new)) }
         ensures closed { IfErr result (λ why. IfClosed why (IsBehind self.new)) }
         ensures still { IsBehind self.old → result ≡ Err Closed }
+        ensures memory { takes ≡ true → IfErr result (λ why. why ≢ NoMemory) }
     {
         if self.behind {
             return Err(Refused::Closed);
@@ -118,6 +119,7 @@ impl<T: Drop> End<T> {
             → FoundNone (stand_of self.old) (stand_of self.new)) }
         ensures closed { IfErr result (λ why. IfClosed why (IsBehind self.new)) }
         ensures still { IsBehind self.old → result ≡ Err Closed }
+        ensures memory { takes ≡ true → IfErr result (λ why. why ≢ NoMemory) }
     {
         if self.inside.is_some() {
             self.leave();

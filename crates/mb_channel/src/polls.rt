@@ -51,7 +51,7 @@ pub enum Polled<T: Drop> {
 impl<T: Drop> Receiver<T> {
     ghost use Rattle.mb_channel.specs.Answers.{IfClosed};
     ghost use Rattle.mb_channel.specs.Ends.{IsBehind, stand_of};
-    ghost use Rattle.mb_channel.specs.Polls.{OfPolled, PollClosed};
+    ghost use Rattle.mb_channel.specs.Polls.{IsNotForMemory, OfPolled, PollClosed};
     ghost use Rattle.mb_channel.specs.Receives.{SawEmpty};
     ghost use Rattle.mb_channel.specs.Standing.{stand_with};
     ghost use Rattle.mb_channel.specs.Wakes.{Tells, after_polled, wakes_of};
@@ -64,6 +64,7 @@ impl<T: Drop> Receiver<T> {
             (λ r why. IfClosed why (IsBehind r.end)) }
         ensures wakes { Tells 0 (wakes_of self.end) (after_polled result) }
         ensures still { IsBehind self.end → PollClosed result }
+        ensures memory { IsNotForMemory result }
     {
         let Receiver { mut end } = self;
         for _ in 0..TRIES {

@@ -1,6 +1,6 @@
 //! The calls that receive.
-ghost use Rattle.std.specs.Prelude.{◌≡◌, ◌⊎◌, Err, IfErr, IfNone, IfOk, IfSome, OnErr};
-ghost use Rattle.mb_channel.specs.declared.channel.Refused.TheVariants.{Closed};
+ghost use Rattle.std.specs.Prelude.{◌≡◌, ◌≢◌, ◌⊎◌, Err, IfErr, IfNone, IfOk, IfSome, OnErr};
+ghost use Rattle.mb_channel.specs.declared.channel.Refused.TheVariants.{Closed, NoMemory};
 ghost use Rattle.mb_channel.specs.Answers.{IfClosed};
 ghost use Rattle.mb_channel.specs.Ends.{IsBehind, IsOver, IsSame, got_by, sent_by, stand_of};
 ghost use Rattle.mb_channel.specs.Receives.{FoundNone, OfTried, SawEmpty};
@@ -109,6 +109,7 @@ impl<T: Drop> Receiver<T> {
         ensures still { IsBehind self.old.end → result ≡ Err Closed }
         ensures sent { sent_by self.new.end ≡ sent_by self.old.end }
         ensures wakes { Tells 0 (wakes_of self.old.end) (wakes_of self.new.end) }
+        ensures memory { IfErr result (λ why. why ≢ NoMemory) }
     {
         for _ in 0..TRIES {
             if let Some(tried) = self.end.try_receive() {
