@@ -117,7 +117,7 @@ def groups(mutants):
     return found
 
 
-def check(kit, crate, group, kept, jobs):
+def check(kit, crate, group, kept):
     """What a check of the functions of the group says, in a copy of the crate with its edits."""
     with tempfile.TemporaryDirectory(prefix="mutants-") as room:
         for part in kit.PARTS:
@@ -127,7 +127,7 @@ def check(kit, crate, group, kept, jobs):
             with open(f"{room}/{path}", "w", encoding="utf-8") as file:
                 file.write(text)
         # (a static library is checked as a library: the proofs are the same, and no code of other crates is read)
-        words = [it for it in crate.words(["--jobs", str(jobs)], keeps=False) if it not in ("--crate-type", "staticlib")]
+        words = [it for it in crate.words(["--jobs", "1"], keeps=False) if it not in ("--crate-type", "staticlib")]
         words += [word for it in group for word in ("--only", it.function.partition("::")[2])]
         words = [*kit.guarded(), kit.RATTLE, "check", *words, "--incremental", kept]
         how = {"cwd": room, "stdin": subprocess.DEVNULL, "stdout": subprocess.PIPE, "stderr": subprocess.STDOUT}
@@ -176,14 +176,14 @@ def judged(group, said):
     return {it.label: fails(it.function, verdicts.get(it.function, ""), said) for it in group}, ""
 
 
-def try_crate(kit, crate, mutants, jobs):
+def try_crate(kit, crate, mutants):
     """Tries the mutants of a crate, one group after the other. Returns how many passed and failed."""
     passed = 0
     with tempfile.TemporaryDirectory(prefix="mutants-kept-") as room:
         if os.path.isdir(f"{crate.folder}/out/incremental"):
             shutil.copytree(f"{crate.folder}/out/incremental", room, dirs_exist_ok=True)
         for group in groups(mutants):
-            refused, why = judged(group, check(kit, crate, group, room, jobs))
+            refused, why = judged(group, check(kit, crate, group, room))
             passed += sum(refused.values())
             for it in group:
                 word = "refused" if refused.get(it.label) else f"NOT TRIED: {why[:300]}" if why else "NOT REFUSED"
@@ -208,12 +208,10 @@ def main(words):
     for it in dict.fromkeys(lib for crate in wanted for lib in kits.lacking(crate, "--proved" in words)):
         if it.build_rlib(["--jobs", "1"], anew=False):
             sys.exit(f"{it.name} is not proved, so nothing above it is tried")
-    # The largest crate's mutants take the longest. So two checks run at a time, each with half of the processes.
-    lanes = kits.lanes(kit, MEMORY)
-    jobs = max(1, lanes // 2)
-    with ThreadPoolExecutor(lanes // jobs) as pool:
+    # The largest crate's mutants take the longest, so they begin first.
+    with ThreadPoolExecutor(kits.lanes(kit, MEMORY)) as pool:
         wanted.sort(key=lambda it: -it.count(rb"\n"))
-        counts = [*pool.map(lambda it: try_crate(kit, it, of_crate[it.name], jobs), wanted)]
+        counts = [*pool.map(lambda it: try_crate(kit, it, of_crate[it.name]), wanted)]
     passed, failed = sum(it[0] for it in counts), sum(it[1] for it in counts) + len(names - {it.name for it in wanted})
     print(f"{passed} passed, {failed} failed")
     return bool(failed) or not passed
