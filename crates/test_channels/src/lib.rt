@@ -1,0 +1,22 @@
+//! Tests of the channels and of what they are built of, which are proved without them: threads that send and receive, and
+//! each answer of the calls.
+#![tactic(auto)]
+
+#[cfg(test)]
+mod bounded;
+#[cfg(test)]
+mod channels;
+#[cfg(test)]
+mod closing;
+#[cfg(test)]
+mod crowds;
+#[cfg(test)]
+mod rings;
+#[cfg(test)]
+mod segments;
+#[cfg(test)]
+mod sleeping;
+#[cfg(test)]
+mod telling;
+#[cfg(test)]
+mod ways;
