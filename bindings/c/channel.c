@@ -12,8 +12,7 @@
 #include <stdlib.h>
 
 #define WEAK __attribute__((weak))
-
-enum { LOOKS = 10, SPINS = 6 }; /* looks before a sleep, and how many of the pauses between them spin */
+enum { LOOKS = 7, SPINS = 3 }; /* looks before a sleep, and how many of the pauses between them spin */
 
 struct sleeper {
     struct sleeper *next;
@@ -28,8 +27,9 @@ struct hz_sleepers {
     struct sleeper *first;
 };
 
+/* Some microseconds, or a yield. With less, threads that wait take the lines of memory from those that work. */
 static void pause_after(unsigned tries) {
-    for (volatile unsigned i = 0; tries < SPINS && i < 1u << tries; i++) {}
+    for (volatile unsigned i = 0; tries < SPINS && i < 1024u << tries; i++) {}
     if (tries >= SPINS)
         sched_yield();
 }

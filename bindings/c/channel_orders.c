@@ -8,6 +8,7 @@
 #include <pthread.h>
 #include <sched.h>
 #include <setjmp.h>
+#include <stdatomic.h>
 #include <stdbool.h>
 #include <stdint.h>
 #include <stdio.h>
@@ -27,7 +28,9 @@ static void wake_up(const void *cond);
 #define pthread_cond_timedwait(cond, lock, deadline) ((void)(lock), sleep_on(cond, deadline))
 #define pthread_cond_signal(cond) wake_up(cond)
 #define sched_yield() ((void)0)
+#define volatile /* so that a compiler drops the pauses */
 #include "channel.c"
+#undef volatile
 
 enum { ENDS = 6, RECEIVERS = 3, STACK = 4096 };
 #define LISTED (UINT64_C(1) << 32)
