@@ -1,15 +1,16 @@
 #!/usr/bin/env python3
 """The channel beside those that people know: nanoseconds and instructions a value.
 
-usage: bench/channels.py [--rounds 11] [--values 500000] [--counts]
+usage: bench/channels.py [--rounds 11] [--values 500000] [--counts] [--only hazbultra,proved,crossbeam]
 
 Nanoseconds are medians of interleaved rounds, without the making of a channel. A x B is A threads that send and B that
 receive. With 4 x 16 there is also the 99th percentile of the time from send to receive. A row divides our figures by those
 of crossbeam-channel.
-Instructions are callgrind's, of a send and a receive, in one thread. With --counts there are no nanoseconds. On four idle
-processors it takes two minutes. It wants cargo, valgrind, and crossbeam-channel, flume and async-channel of Debian.
+Instructions are callgrind's, of a send and a receive, in one thread. With --counts there are no nanoseconds. With --only there
+are these channels and no others, crossbeam among them. On four idle processors it takes three minutes. It wants cargo, cc,
+valgrind, and crossbeam-channel, flume and async-channel of Debian.
 
-It first prints the last rows of the README's table. One has the bytes that one more `u64` takes while it waits, by the memory
+Of all channels it first prints the last rows of the README's table. One has the bytes that one more `u64` takes while it waits, by the memory
 resident at the peaks of two runs that send all values before they receive one. The others divide the nanoseconds of each
 channel by those of crossbeam-channel, and have the least and the largest ratio over all A x B.
 """
@@ -18,7 +19,7 @@ import argparse
 import measuring
 
 PROGRAM = measuring.ROOM / "release" / "beside_channels"
-CHANNELS = {"hazbultra": "`hazbultra::channel`", "crossbeam": "`crossbeam-channel`", "flume": "`flume`",
+CHANNELS = {"hazbultra": "`hazbultra::channel`", "proved": "the channel for C", "crossbeam": "`crossbeam-channel`", "flume": "`flume`",
             "async": "`async-channel`", "std": "`std::sync::mpsc`, a lock"}
 # What is sent: a number, or a number in a box.
 SENT = ("u64", "box")
@@ -53,10 +54,11 @@ def ratios(took, what, sent, base="crossbeam"):
 
 def front(took):
     """The rows of the README."""
-    bytes_row = ["bytes for each `u64` that waits", *map(kept, CHANNELS)]
+    shown = [it for it in CHANNELS if it != "proved"]
+    bytes_row = ["bytes for each `u64` that waits", *map(kept, shown)]
     named = {"u64": "time, `u64`", "box": "time, each value a `Box`"}
-    rows = [[named[sent], *(ratios(took, it, sent) for it in CHANNELS)] for sent in SENT]
-    return measuring.table(["", *CHANNELS.values()], [bytes_row, *rows])
+    rows = [[named[sent], *(ratios(took, it, sent) for it in shown)] for sent in SENT]
+    return measuring.table(["", *map(CHANNELS.get, shown)], [bytes_row, *rows])
 
 
 def main():
@@ -64,11 +66,13 @@ def main():
     parser.add_argument("--rounds", type=int, default=11)
     parser.add_argument("--values", type=int, default=500_000)
     parser.add_argument("--counts", action="store_true")
+    parser.add_argument("--only", default=",".join(CHANNELS))
     options = parser.parse_args()
+    channels = [it for it in CHANNELS if it in options.only.split(",")]
     measuring.cargo("bench/beside_channels")
     print(measuring.machine(), end="\n\n")
     runs, late = {}, {}
-    for what in CHANNELS if not options.counts else ():
+    for what in channels if not options.counts else ():
         for sent in SENT:
             for threads in THREADS:
                 def run(what=what, sent=sent, threads=threads):
@@ -77,21 +81,23 @@ def main():
                     return took / options.values
                 runs[what, sent, threads] = run
     took = measuring.medians(options.rounds, runs)
-    if not options.counts:
+    if not options.counts and len(channels) == len(CHANNELS):
         print(front(took), end="\n\n", flush=True)
     head, rows = ["A value", "instructions: one at a time", "all sent first"], []
     if not options.counts:
         head += [f"ns: {senders} x {receivers}" for senders, receivers in THREADS] + ["µs: 99th percentile of 4 x 16"]
     for sent in SENT:
-        for what, name in CHANNELS.items():
-            row = [f"{name}, {sent}", *counts(what, sent)]
+        for what in channels:
+            row = [f"{CHANNELS[what]}, {sent}", *counts(what, sent)]
             if not options.counts:
                 row += [took[what, sent, it] for it in THREADS]
                 row.append(sorted(late[what, sent, THREADS[-1]])[options.rounds // 2] / 1000)
             rows.append(row)
         figures = {row[0]: row[1:] for row in rows}
-        ours, theirs = (figures[f"{CHANNELS[what]}, {sent}"] for what in ("hazbultra", "crossbeam"))
-        rows.append([f"ours by crossbeam's, {sent}", *(f"{one / two:.2f}" for one, two in zip(ours, theirs))])
+        theirs = figures[f"{CHANNELS['crossbeam']}, {sent}"]
+        for what in ("hazbultra", "proved"):
+            if ours := figures.get(name := f"{CHANNELS[what]}, {sent}"):
+                rows.append([f"{name}, by crossbeam's", *(f"{one / two:.2f}" for one, two in zip(ours, theirs))])
     print(measuring.table(head, rows))
 
 

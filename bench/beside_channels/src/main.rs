@@ -2,7 +2,10 @@
 //! nanoseconds the work took, without the making of the channel, and within how many 99 of 100 values arrived, or 0.
 //!
 //! Its arguments are CHANNEL u64|box threads|relay|turns PRODUCERS CONSUMERS VALUES.
+mod proved;
+
 use hazbultra::channel;
+use proved::Word;
 use std::env;
 use std::hint::black_box;
 use std::process::ExitCode;
@@ -145,9 +148,15 @@ fn work<T: Send, S: Sending<T>, R: Receiving<T>>(
     }
 }
 
-fn through<T: Send>(what: &str, way: &str, plan: Plan, form: Form<T>) -> Option<(u64, Vec<u64>)> {
+fn through<T: Word + Send>(
+    what: &str,
+    way: &str,
+    plan: Plan,
+    form: Form<T>,
+) -> Option<(u64, Vec<u64>)> {
     match what {
         "hazbultra" => work(channel::unbounded(), way, plan, form),
+        "proved" => work(proved::channel(), way, plan, form),
         "crossbeam" => work(crossbeam_channel::unbounded(), way, plan, form),
         "flume" => work(flume::unbounded(), way, plan, form),
         "async" => work(async_channel::unbounded(), way, plan, form),
@@ -199,7 +208,7 @@ fn main() -> ExitCode {
     let words: Vec<String> = env::args().skip(1).collect();
     let Some((took, mut ways)) = run(&words) else {
         eprintln!(
-            "usage: beside_channels hazbultra|crossbeam|flume|async|std u64|box threads|relay|turns PRODUCERS CONSUMERS VALUES"
+            "usage: beside_channels hazbultra|proved|crossbeam|flume|async|std u64|box threads|relay|turns PRODUCERS CONSUMERS VALUES"
         );
         return ExitCode::FAILURE;
     };
