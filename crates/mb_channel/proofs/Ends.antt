@@ -3,8 +3,8 @@ use Rattle.std.proofs.Common.{ℕ, suc, Bool, true, false, List, [], Option, Som
 use Rattle.std.proofs.Common.{◌≡◌, ◌≢◌, ◌+◌, ◌∷◌, ◌++◌, if◌then◌else◌, ◌∙◌}
 use native.Mathlib.Decide.{ℕ_discrete}
 use Rattle.std.proofs.lemmas.List.{length-map, length-append, map-append}
-use Rattle.mb_channel.specs.ChannelTheorem.{Claim, Entry, History, Spot, entries, left, spots_by, spots_to, taken}
-use Rattle.mb_channel.specs.Segments.{TakenInTurn, drawn, logs_by, logs_to}
+use Rattle.mb_channel.specs.ChannelTheorem.{Claim, Entry, History, Spot, TakenInTurn, entries, left, spots_by, spots_to, taken}
+use Rattle.mb_channel.specs.Segments.{drawn, logs_by, logs_to}
 use Rattle.mb_channel.specs.Stays.{AllBy, AllTo, AreApart, DidSo, IsEnd, IsPass, Stay, Told, by_ends, end_of, life_of, log_of, logs_of, moved_by, named, named_claim}
 
 abbrev is_it : Option ℕ → ℕ → Bool

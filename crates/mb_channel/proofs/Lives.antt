@@ -8,9 +8,9 @@ use Rattle.std.proofs.lemmas.List.{map-append}
 use Rattle.mb_segment.specs.History as seg
 use Rattle.mb_segment.specs.Vocabulary.{AllHeed, Heeds, In, IsWhole as IsToldWhole, hub_view}
 use Rattle.mb_channel.specs.Types.{Account, Home, Knows, Position}
-use Rattle.mb_channel.specs.ChannelTheorem.{Spot, left, taken}
+use Rattle.mb_channel.specs.ChannelTheorem.{Spot, TakenInTurn, left, taken}
 use Rattle.mb_channel.specs.Homes.{AllMade, IsNext, IsWhole, Made, came_back, made_by, made_in}
-use Rattle.mb_channel.specs.Segments.{TakenInTurn, drawn}
+use Rattle.mb_channel.specs.Segments.{drawn}
 use Rattle.mb_channel.specs.Stays.{AreStays, Stay, Told, log_of, logs_of, moved_by}
 use Rattle.mb_channel.specs.Lives.{HaveEnded, HaveLived, all_left, count_sent, end_in, placed, visits_of}
 use Rattle.mb_channel.proofs.Accounts.{EachFalls, accounts, accounts_at, claim, entry, made_at, none_got, pos, stay, told}

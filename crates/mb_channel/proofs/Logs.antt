@@ -1,8 +1,8 @@
 -- The logs of the ends, segment by segment.
 use Rattle.std.proofs.Common.{ℕ, suc, ◌≡◌, ◌+◌, List, [], ◌∷◌, ◌++◌, length, nat_eq, if◌then◌else◌, sym, refl, ap, ◌∙◌, ⊎_elim, arith}
 use Rattle.std.proofs.lemmas.List.{append-nil, append_assoc, length-map}
-use Rattle.mb_channel.specs.ChannelTheorem.{Claim, Entry, History, Spot, entries, sent, spots_by, spots_to, taken}
-use Rattle.mb_channel.specs.Segments.{TakenInTurn, drawn, logs_by, logs_to}
+use Rattle.mb_channel.specs.ChannelTheorem.{Claim, Entry, History, Spot, TakenInTurn, entries, sent, spots_by, spots_to, taken}
+use Rattle.mb_channel.specs.Segments.{drawn, logs_by, logs_to}
 
 module _ {T : Type 0} where
   by_append : (n p : ℕ) (xs ys : List (Entry T))

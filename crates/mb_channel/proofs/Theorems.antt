@@ -1,8 +1,8 @@
 -- The points of a channel, of a moment and of a whole life.
 use Rattle.std.proofs.Common.{ℕ, List, length, ap, ◌∙◌}
-use Rattle.mb_channel.specs.ChannelTheorem.{EachMoment, End, History, Moment, WholeLife, life}
-use Rattle.mb_channel.specs.Segments.{AreLogs, EachKeeps, InTurn, KeepsEnd, TakenInTurn}
-use Rattle.mb_channel.proofs.Turns.{awake_of, begins, ended_of, left_here, turns}
+use Rattle.mb_channel.specs.ChannelTheorem.{EachMoment, End, History, Moment, TakenInTurn, WholeLife, life}
+use Rattle.mb_channel.specs.Segments.{AreLogs, EachKeeps, InTurn, KeepsEnd}
+use Rattle.mb_channel.proofs.Turns.{awake_of, ended_of, left_here, turns}
 use Rattle.mb_channel.proofs.Logs.{sent_logs, taken_logs}
 use Rattle.mb_channel.specs.Stays.{AreStays, Told, life_of}
 use Rattle.mb_channel.proofs.Ends.{got_so, left_so, sent_so, turn_so}
@@ -10,16 +10,13 @@ use Rattle.mb_channel.proofs.Ends.{got_so, left_so, sent_so, turn_so}
 module _ {T : Type 0} where
   pub each_moment : (m : Moment T) → EachKeeps m.segments → InTurn m.segments → KeepsEnd m → EachMoment m
   each_moment m k turn end = record {
-    beginning = begins (life m) (turns m.segments k turn);
+    turn = turns m.segments k turn;
     empty = λ s has came on none. ap length (left_here m.segments turn s has came on ∙ none);
     closed = λ is. let e = end.told is in (e.0, ap length (ended_of m.segments turn e.1));
     refused = end.refused;
     awake = awake_of m.segments k turn;
     ended = end.ended;
   }
-
-  pub in_turn : (m : Moment T) → EachKeeps m.segments → InTurn m.segments → TakenInTurn (life m)
-  in_turn m k turn = turns m.segments k turn
 
   pub whole_life : (hs : List (History T)) (ends : ℕ → End T) (back : List T)
       → TakenInTurn hs → AreLogs hs ends back → WholeLife hs ends back
@@ -28,7 +25,7 @@ module _ {T : Type 0} where
     after = logs.after;
     takers = λ n. logs.takes n ∙ taken_logs n 0 hs turn;
     later = logs.later;
-    beginning = begins hs turn;
+    turn = turn;
     rest = logs.rest;
   }
 

@@ -2,8 +2,8 @@
 use Rattle.std.proofs.Common.{ℕ, zero, suc, ◌≡◌, ◌+◌, ◌<◌, ◌≤◌, ◌⊎◌, Bool, true, false, List, [], ◌∷◌, ◌++◌, length, map, sym, refl, ap, ◌∙◌, subst, inl, inr, ⊎_elim, arith, true≢false}
 use Rattle.std.specs.Prelude.{Contains, slice_index_or}
 use Rattle.std.proofs.lemmas.List.{append-nil, append_assoc, map-append}
-use Rattle.mb_channel.specs.ChannelTheorem.{History, IsAwake, Segment, entries, left, sent, taken}
-use Rattle.mb_channel.specs.Segments.{EachKeeps, InTurn, Keeps, LastIsTaken, TakenInTurn}
+use Rattle.mb_channel.specs.ChannelTheorem.{History, IsAwake, Segment, TakenInTurn, entries, left, sent, taken}
+use Rattle.mb_channel.specs.Segments.{EachKeeps, InTurn, Keeps, LastIsTaken}
 
 module _ {T : Type 0} where
   abbrev pub lives : List (Segment T) → List (History T)

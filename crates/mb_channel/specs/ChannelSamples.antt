@@ -71,12 +71,12 @@ abbrev pub unheeded_take : ℕ → End ℕ
 unheeded_take = four (sender (call 0 10 0 ∷ call 1 11 1 ∷ [])) (sender []) (receiver (call 1 11 0 ∷ []))
     (receiver (call 0 10 2 ∷ []))
 
--- the value 11 of the second segment was taken before 10 of the first
+-- the value of the second segment was taken before that of the first, which is the same number of the same sender
 abbrev pub overtaken_life : List (History ℕ)
-overtaken_life = history [] (entry 0 10 ∷ []) ∷ history (claim 0 11 2 ∷ []) [] ∷ []
+overtaken_life = history [] (entry 0 10 ∷ []) ∷ history (claim 0 10 2 ∷ []) [] ∷ []
 
 abbrev pub overtaken : ℕ → End ℕ
-overtaken = four (sender (call 0 10 0 ∷ call 1 11 1 ∷ [])) (sender []) (receiver (call 1 11 0 ∷ [])) (receiver [])
+overtaken = four (sender (call 0 10 0 ∷ call 1 10 1 ∷ [])) (sender []) (receiver (call 0 10 0 ∷ [])) (receiver [])
 
 -- end 2 claimed a value, and none of its calls returned it
 abbrev pub forgotten : ℕ → End ℕ

@@ -1,15 +1,13 @@
 -- The theorem of the channel. All values sent stand in one list. A value's index in it is its *place*. The list lies in
 -- *segments*, one behind the other. Senders and receivers are *ends*, each with a number of its own.
 -- Points 1 to 3 are of a *whole life*: all that the ends did, until the last was given back. A *moment* lies between
--- any two steps of any threads. Points 4 and 5 hold at each, and `beginning` too.
+-- any two steps of any threads. Points 4 and 5 hold at each, and `turn` too.
 -- `n : K` says of what kind n is, the line `n .. = e` below it what n means. `f x y` is f of x and y, `λ x. e` the
--- function from x to e. A record of statements (`Type 0`) says that all of them hold. ℕ: numbers. T: the values' type.
--- Skip `{T : Type 0}`, `pub`, `abbrev`, `use`.
+-- function from x to e. All statements of a record hold. ℕ: numbers. T: the values' type. Skip `pub`, `{T : Type 0}`.
 --     A → B    if A then B; a function from A to B      (x : A) → B    for all x of A: B     A ⊎ B    A or B
 --     A × B    A and B                    nat_eq        whether =      Contains xs x         x is an element of xs
 --     xs ++ ys first xs, then ys          x ∷ xs        first x, then xs                     All P xs P of each element
---     suc p    p + 1     length xs   how many elements     map f xs   f of each element, in order
---     flat_map f xs   the lists that f makes of the elements, one behind the other
+--     suc p    p + 1     length xs   how many     map f xs   f of each, in order    flat_map f xs   these lists, joined
 use Rattle.std.specs.Prelude.{ℕ, suc, ◌≡◌, ◌<◌, ◌≤◌, ◌⊎◌, ◌+◌, ◌-◌, ◌++◌, Bool, true, false, nat_eq, if◌then◌else◌}
 use Rattle.std.specs.Prelude.{List, [], ◌∷◌, length, All, Contains, map, flat_map}
 
@@ -21,14 +19,13 @@ pub record Claim (T : Type 0) : Type 0 where  -- a value that was taken
   pub entry : Entry T
   pub to : ℕ  -- the number of its receiver
 
-pub record History (T : Type 0) : Type 0 where  -- what happened in one segment
+pub record History (T : Type 0) : Type 0 where  -- what happened in a segment. A channel has many, oldest first
   pub claims : List (Claim T)  -- its values that were taken, in order
   pub rest : List (Entry T)  -- its values behind those, in order
 
 abbrev pub entries : {T : Type 0} → List (Claim T) → List (Entry T)
 entries = map (λ c. c.entry)
 
--- What happened in a channel is a list of segments, the oldest first
 abbrev pub sent : {T : Type 0} → List (History T) → List (Entry T)  -- all values sent, in the one order
 sent = flat_map (λ h. entries h.claims ++ h.rest)
 
@@ -37,6 +34,11 @@ taken = flat_map (λ h. h.claims)
 
 abbrev pub left : {T : Type 0} → List (History T) → List (Entry T)  -- and those that were not
 left = flat_map (λ h. h.rest)
+
+-- Nobody overtakes: each segment of which something is left has nothing taken behind it. `Unit` says nothing
+abbrev pub TakenInTurn : {T : Type 0} → List (History T) → Type 0
+TakenInTurn [] = Unit {0}
+TakenInTurn (h ∷ hs) = ((h.rest ≡ []) ⊎ (taken hs ≡ [])) × TakenInTurn hs
 
 -- ---- a whole life
 pub record Spot (T : Type 0) : Type 0 where  -- a value at its place
@@ -57,9 +59,7 @@ spots_by n p [] = []
 spots_by n p (e ∷ es) = (if nat_eq e.by n then record { at = p; value = e.value } ∷ [] else []) ++ spots_by n (suc p) es
 
 abbrev pub spots_to : {T : Type 0} → ℕ → ℕ → List (Claim T) → List (Spot T)
-spots_to n p [] = []
-spots_to n p (c ∷ cs) =
-    (if nat_eq c.to n then record { at = p; value = c.entry.value } ∷ [] else []) ++ spots_to n (suc p) cs
+spots_to n p cs = spots_by n p (map (λ c. record { by = c.to; value = c.entry.value }) cs)
 
 -- `ends n` is what end n did (nothing, if there was none), and `back` what the channel gives back when it ends
 pub record WholeLife {T : Type 0} (life : List (History T)) (ends : ℕ → End T) (back : List T) : Type 0 where
@@ -70,7 +70,7 @@ pub record WholeLife {T : Type 0} (life : List (History T)) (ends : ℕ → End 
   -- The list's first values were taken
   pub takers : (n : ℕ) → map (λ c. c.spot) (ends n).takes ≡ spots_to n 0 (taken life)
   pub later : (n : ℕ) → All (λ c. c.knew ≤ c.spot.at) (ends n).takes
-  pub beginning : sent life ≡ entries (taken life) ++ left life
+  pub turn : TakenInTurn life
   -- Point 3, nothing is lost: what is given back is the rest of the list, in order
   pub rest : back ≡ map (λ e. e.value) (left life)
 
@@ -111,7 +111,7 @@ abbrev pub IsAwake : Type 0 → ℕ → Sleepers → Type 0
 IsAwake goes_on ready s = s.tokens < s.asleep → (0 < s.owed_to_all) ⊎ (goes_on × (ready ≤ s.tokens + s.owed))
 
 pub record EachMoment {T : Type 0} (m : Moment T) : Type 0 where
-  pub beginning : sent (life m) ≡ entries (taken (life m)) ++ left (life m)
+  pub turn : TakenInTurn (life m)
   -- Point 4, answers are true. "Empty" is told where a receiver's own segment is empty and not over: then nothing waits
   pub empty : (s : Segment T) → Contains m.segments s → s.is_visited ≡ true → s.is_over ≡ false
       → s.history.rest ≡ [] → waiting m ≡ 0

@@ -35,11 +35,6 @@ pub record KeepsEnd {T : Type 0} (m : Moment T) : Type 0 where
   pub ended : (m.is_closed ≡ true) ⊎ (m.senders ≡ 0) → (0 < m.closers) ⊎ All (λ s. s.is_over ≡ true) m.segments
 
 -- ---- a whole life
--- where something is left of a segment, nothing was taken of those behind it
-abbrev pub TakenInTurn : {T : Type 0} → List (History T) → Type 0
-TakenInTurn [] = Unit {0}
-TakenInTurn (h ∷ hs) = ((h.rest ≡ []) ⊎ (taken hs ≡ [])) × TakenInTurn hs
-
 abbrev pub drawn : {T : Type 0} → History T → ℕ
 drawn h = length (entries h.claims ++ h.rest)
 

@@ -1,8 +1,8 @@
 -- Passes and ends. In each segment an end has a pass, which has a number there. What the segment tells of its passes
 -- becomes what the channel tells of its ends.
 use Rattle.std.specs.Prelude.{ℕ, ◌≡◌, ◌≤◌, ◌⊎◌, ◌+◌, ◌++◌, All, List, [], ◌∷◌, map, nat_eq, if◌then◌else◌}
-use Rattle.mb_channel.specs.ChannelTheorem.{Claim, End, Entry, History, Spot, entries, left, spots_by, spots_to}
-use Rattle.mb_channel.specs.Segments.{TakenInTurn, drawn}
+use Rattle.mb_channel.specs.ChannelTheorem.{Claim, End, Entry, History, Spot, TakenInTurn, entries, left, spots_by, spots_to}
+use Rattle.mb_channel.specs.Segments.{drawn}
 
 -- one end in one segment: the number of its pass, its own, and what it sent and took there, by places in the segment
 pub record Stay (T : Type 0) : Type 0 where

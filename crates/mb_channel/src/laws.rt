@@ -1,16 +1,16 @@
 //! The laws of a channel. The functions compute nothing: their contracts are the laws.
-ghost use Rattle.std.specs.Prelude.{ℕ, List, Some, length, suc, true, ◌<◌, ◌≡◌};
+ghost use Rattle.std.specs.Prelude.{ℕ, List, Some, length, suc, true, ◌++◌, ◌<◌, ◌≡◌};
 ghost use mathlib.Core.Option.{some};
 ghost use lib.ListN.{get_elem?};
 ghost use Rattle.atomic_table.specs.Table.{Step};
-ghost use Rattle.mb_channel.specs.ChannelTheorem.{EachMoment, End, History, Moment, Segment, WholeLife, life};
+ghost use Rattle.mb_channel.specs.ChannelTheorem.{EachMoment, End, History, Moment, Segment, TakenInTurn, WholeLife, entries, left, life, sent, taken};
 ghost use Rattle.mb_channel.specs.Stays.{AreStays, Told, life_of};
 ghost use Rattle.mb_channel.specs.Types.{Home, Homes, Knows};
 ghost use Rattle.mb_segment.specs.Vocabulary.{FindsEmpty, SegmentState};
 ghost use Rattle.mb_channel.specs.Closing.{AreStates, IsClosedOff, IsFinished, ListState, NoneWaits};
 ghost use Rattle.mb_channel.specs.Homes.{AllHomes, At, IsShut, IsWhole, Keeps, Sat, sends, total};
 ghost use Rattle.mb_channel.specs.Lives.{HaveEnded, HaveLived, all_left, end_in};
-ghost use Rattle.mb_channel.specs.Segments.{AreLogs, EachKeeps, InTurn, KeepsEnd, TakenInTurn};
+ghost use Rattle.mb_channel.specs.Segments.{AreLogs, EachKeeps, InTurn, KeepsEnd};
 ghost use Rattle.mb_channel.specs.Tallies.{sees_senders};
 ghost use Rattle.mb_channel.specs.Deeds.{Deed, IsUpTo, OneMore};
 ghost use Rattle.mb_channel.specs.Told.{AllTell, KeepsOrder, index};
@@ -20,14 +20,15 @@ ghost use Rattle.mb_channel.specs.declared.place.Place.{Place};
 pub fn moments_keep_the_theorem<T>()
     ensures moment { (m : Moment T) → EachKeeps m.segments → InTurn m.segments → KeepsEnd m
         → EachMoment m }
-    ensures turn { (m : Moment T) → EachKeeps m.segments → InTurn m.segments
-        → TakenInTurn (life m) }
 {}
 
 /// Of a whole life: segments that were taken in turn make one channel. Each end did there what it did in the segments.
+/// What was taken is the beginning of what was sent.
 pub fn lives_keep_the_theorem<T>()
     ensures life { (hs : List (History T)) (ends : ℕ → End T) (back : List T)
         → TakenInTurn hs → AreLogs hs ends back → WholeLife hs ends back }
+    ensures beginning { (hs : List (History T)) → TakenInTurn hs
+        → sent hs ≡ entries (taken hs) ++ left hs }
 {}
 
 /// Of a whole life: in each segment an end had one pass at most. What the segments tell of their passes is the whole life

@@ -141,7 +141,7 @@ impl<T: Drop> Leaving<T> {
         self.debtor.at
     }
 
-    /// Leaves the list, and gives the tokens that are owed. It wakes a thread for each.
+    /// Leaves the list, and gives the tokens that are owed. It wakes a thread for each, and receives nothing.
     pub fn pay<R: Wait>(self, rt: &R) -> Receiver<T>
         ensures { NoMore (stand_with self.debtor) (stand_of result.end) }
     {

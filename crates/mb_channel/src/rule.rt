@@ -120,6 +120,7 @@ impl<T: Drop> Play<Homes<T>, Knows<T>> for SeesSenders {
     ghost then = { sees_senders };
 }
 
+/// A load of the list's mark, which is 0 once the channel is closed.
 pub struct SeesMark;
 
 impl<T: Drop> Play<Homes<T>, Knows<T>> for SeesMark {

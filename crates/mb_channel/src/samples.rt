@@ -6,13 +6,13 @@ ghost use Rattle.mb_channel.specs.ChannelSamples.{forgotten, one_sender, one_tak
 ghost use Rattle.mb_channel.specs.ChannelSamples.{taken_twice, two_and_two, two_segments, two_taken, unheeded, unheeded_life, unheeded_take};
 ghost use Rattle.mb_channel.specs.ChannelSamples.{ended, refused_beside_a_receiver, sleepers, told_beside_a_sender, told_too_soon, two_forsaken, two_wait, value_behind};
 ghost use Rattle.mb_channel.specs.ChannelSamples.{last_drawn, last_forgotten, looked_for, overslept, slept_past_the_end, slept_through_the_end, token_elsewhere};
-ghost use Rattle.mb_channel.specs.ChannelTheorem.{EachBounded, EachMoment, WholeLife};
+ghost use Rattle.mb_channel.specs.ChannelTheorem.{EachBounded, EachMoment, TakenInTurn, WholeLife};
 ghost use Rattle.mb_channel.specs.ChannelSamples.{call, claim, entry, history, receiver, sender};
 ghost use Rattle.mb_channel.specs.LifeSamples.{TellsOf, by_passes, ends_for_passes, last_end, one_got, stay, two_ends, two_sent, two_stays};
 ghost use Rattle.mb_channel.specs.Homes.{IsDone, IsNext, came_back, first_view};
 ghost use Rattle.mb_channel.specs.Tallies.{KnowsLast};
 ghost use Rattle.mb_channel.specs.Types.{Home, View};
-ghost use Rattle.mb_channel.specs.Segments.{AreLogs, EachKeeps, InTurn, KeepsEnd, TakenInTurn};
+ghost use Rattle.mb_channel.specs.Segments.{AreLogs, EachKeeps, InTurn, KeepsEnd};
 ghost use Rattle.mb_channel.specs.Stays.{AllBy, AllTo, AreApart, DidSo, Told, by_ends};
 ghost use Rattle.mb_channel.specs.Lives.{HaveEnded, end_in};
 ghost use Rattle.mb_channel.specs.Ends.{stand_of};
@@ -95,8 +95,9 @@ pub fn sample_stays()
     ensures receiver { AllTo (stay 0 1 [] [] ∷ []) (claim 0 10 1 ∷ []) → ⊥ }
 {}
 
-/// What two ends did, read off their visits. Refused: a value that is left where none can come, or that nobody sent; a
-/// segment that did not end; and a receiver that comes past one where values can come.
+/// What two ends did, read off their visits. `call p x k` is a call of value x at place p, whose end knew of those below
+/// k. Refused: a value that is left where none can come, or that nobody sent; a segment that did not end; and a receiver
+/// that comes past one where values can come.
 pub fn sample_visits()
     ensures sends { (h g : Home ℕ) → came_back h ≡ one_got ∷ two_sent ∷ []
         → end_in last_end (h ∷ g ∷ []) 0

@@ -1,4 +1,5 @@
 -- Calls of a book's `refuses`, `gives` and `takes_back`: what each needs, and what its caller then has, in any `Logic`.
+-- The steps are those of the kit's guide docs/WALKS.md. `show` names a value, `check` proves an equation of it.
 use Rattle.std.proofs.Common.{◌≡◌, ℕ, List, [], ◌∷◌, refl, ap, Bool}
 use seplogic.Ra.Ura.{Ura}
 use mir.Val.{Val, vbool, vunit, vptr}
