@@ -27,7 +27,7 @@ SOURCES = tuple(".rt .antt .rs .c .h .hpp .cpp .py .sh .toml .txt .in HANDLES ma
 OUTSIDE = set("""a b i k l m n o p q s u v w x y rt ci cd cp rm try start holes plant fmt doc version grep rnE rn usr bin time sh
 ldar stlr ldaxr stlxr neoverse __msan_unpoison find_package libc
 git clone main fn use mod forever earlier widths stdin stdout stderr SeedableRng seed_from_u64 crossbeam_queue SegQueue mpsc
-mb_NAME sync_channel SyncSender Selector SendFut RecvFut into_stream send_blocking recv_blocking force_send""".split())
+mb_NAME sync_channel SyncSender Selector SendFut RecvFut Recv into_stream send_blocking recv_blocking force_send""".split())
 
 
 def read(path):
