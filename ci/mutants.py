@@ -131,8 +131,12 @@ def check(kit, crate, group, kept):
         words += [word for it in group for word in ("--only", it.function.partition("::")[2])]
         words = [*kit.guarded(), kit.RATTLE, "check", *words, "--incremental", kept]
         how = {"cwd": room, "stdin": subprocess.DEVNULL, "stdout": subprocess.PIPE, "stderr": subprocess.STDOUT}
-        ran = subprocess.run(words, text=True, errors="replace", **how)
-        return ran.stdout if ran.returncode in (0, 1) else f"{ran.stdout}\nits status is {ran.returncode}"
+        with subprocess.Popen(words, text=True, errors="replace", **how) as ran:
+            said = ran.stdout.read()
+            _, status, used = os.wait4(ran.pid, 0)
+            ran.returncode = os.waitstatus_to_exitcode(status)
+        print(f"{crate.name}: a check of {len(group)} in {used.ru_utime + used.ru_stime:.0f} processor seconds", flush=True)
+        return said if ran.returncode in (0, 1) else f"{said}\nits status is {ran.returncode}"
 
 
 def errors_in(place, said):

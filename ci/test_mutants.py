@@ -1,4 +1,8 @@
 """Tests of ci/mutants.py, over lines that the prover once printed. They run no prover."""
+import contextlib
+import io
+from types import SimpleNamespace
+
 import mutants
 from rooms import Room
 
@@ -57,6 +61,17 @@ class Mutants(Room):
         self.edit("c", "    2", "    3", "q::a::two")
         found, _ = self.edit("d", "    2", "    4", "q::a::two", "alone: why\n")
         self.assertEqual([[it.label[2] for it in group] for group in mutants.groups(found)], [["a", "c"], ["b"], ["d"]])
+
+    def test_a_check_tells_what_it_said_and_its_processor_time(self):
+        prover = self.write("prover", "#!/bin/sh\necho $1 $4; cat src/a.rt; exit $3\n")
+        kit = SimpleNamespace(PARTS=["src"], RATTLE=prover, guarded=lambda: [])
+        group = self.edit("well")[0]
+        for status, last in (0, "}\n"), (1, "}\n"), (3, "\nits status is 3"):
+            crate = SimpleNamespace(name="q", folder=group[0].folder, words=lambda flags, keeps: ["a", str(status)])
+            with contextlib.redirect_stdout(io.StringIO()) as told:
+                said = mutants.check(kit, crate, group, "kept")
+            self.assertTrue(said.startswith("check --only") and "1 + 2" in said and said.endswith(last), said)
+            self.assertRegex(told.getvalue(), r"^q: a check of 1 in \d+ processor seconds\n$")
 
     def judged(self, said, functions=FUNCTIONS, more=""):
         group = []
