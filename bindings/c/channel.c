@@ -28,7 +28,7 @@ struct hz_sleepers {
 };
 
 /* Some microseconds, or a yield. With less, threads that wait take the lines of memory from those that work. */
-static void pause_after(unsigned tries) {
+__attribute__((noinline)) static void pause_after(unsigned tries) {
     for (volatile unsigned i = 0; tries < SPINS && i < 1024u << tries; i++) {}
     if (tries >= SPINS)
         sched_yield();
@@ -77,13 +77,12 @@ static bool sleep_by(hz_sleepers *all, struct sleeper *self, const struct timesp
 }
 
 /* Wakes whom the call told to wake, and pays what the end still owes. */
-static void settle(hz_end *end, hz_sleepers *all, hz_wake *told) {
-    while (told->threads || told->owes) {
+__attribute__((cold, noinline)) static void settle(hz_end *end, hz_sleepers *all, hz_wake *told) {
+    for (;; hz_channel_pay(end, told)) {
         if (told->threads)
             take_out(all, NULL, told->place);
-        told->threads = 0;
-        if (told->owes)
-            hz_channel_pay(end, told);
+        if (!told->owes)
+            return;
     }
 }
 
@@ -142,7 +141,8 @@ WEAK uint32_t hz_recv_by(hz_receiver *from, uint64_t *value, const struct timesp
 WEAK uint32_t hz_try_send(hz_sender *sender, uint64_t value) {
     hz_wake told;
     uint32_t code = hz_channel_send(&sender->end, value, &told);
-    settle(&sender->end, sender->sleepers, &told);
+    if (told.threads || told.owes)
+        settle(&sender->end, sender->sleepers, &told);
     return code;
 }
 

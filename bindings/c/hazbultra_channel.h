@@ -172,7 +172,8 @@ HZ_CHECKED HZ_NONNULL
 uint32_t hz_channel_free(hz_end *end, hz_wake *wake);
 
 static inline uint32_t hz_recv(hz_receiver *receiver, uint64_t *value) {
-    return hz_recv_by(receiver, value, NULL);
+    uint32_t code = hz_channel_try_receive(&receiver->end, value);
+    return code == HZ_NOTHING || code == HZ_AGAIN ? hz_recv_by(receiver, value, NULL) : code;
 }
 
 static inline uint32_t hz_try_recv(hz_receiver *receiver, uint64_t *value) {

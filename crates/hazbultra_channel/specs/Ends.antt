@@ -2,7 +2,9 @@
 use Rattle.std.specs.Prelude.{◌≡◌, ◌⊎◌, ◌≤◌, ℕ, Option, Some, true}
 use Rattle.mb_channel.specs.declared.held.Held.{Held}
 use Rattle.mb_channel.specs.declared.held.Held.TheVariants as held
+use Rattle.mb_channel.specs.declared.try_sends.Owing.{Owing}
 use Rattle.mb_channel.specs.Ends.{AreOfOneChannel, IsBehind, IsFresh, IsSame, Standing, got_by, log_of, stand_of, view_of}
+use Rattle.mb_channel.specs.Kept.{IsKeptBehind, IsKeptFresh, IsSettled, log_kept, stand_kept, wakes_kept}
 use Rattle.mb_channel.specs.Receives.{FoundNone, SawEmpty}
 use Rattle.mb_channel.specs.Standing.{HasCut, NoMore, OneGot, got_in, sent_in, stand_with}
 use Rattle.mb_channel.specs.Wakes.{Tells, Wakes, wakes_of, wakes_with}
@@ -13,8 +15,7 @@ use Rattle.hazbultra_channel.specs.declared.thing.WakeOut.{WakeOut}
 
 -- where the end is, and what it did
 abbrev pub stand_held : {T : Type 0} → Held T → Standing T
-stand_held (held.OfSender s) = stand_of s.end
-stand_held (held.OfOwing o) = stand_with o.debtor
+stand_held (held.OfSender k) = stand_kept k
 stand_held (held.OfReceiver r) = stand_of r.end
 stand_held (held.OfLeaving l) = stand_with l.debtor
 stand_held (held.OfAsleep a) = stand_with a.debtor
@@ -27,8 +28,7 @@ place_held h = (stand_held h).chair.me.0.at
 
 -- the tokens that it gave, and for how many of them its caller is still to be told to wake a thread
 abbrev pub wakes_held : {T : Type 0} → Held T → Wakes
-wakes_held (held.OfSender s) = wakes_of s.end
-wakes_held (held.OfOwing o) = wakes_with o.debtor
+wakes_held (held.OfSender k) = wakes_kept k
 wakes_held (held.OfReceiver r) = wakes_of r.end
 wakes_held (held.OfLeaving l) = wakes_with l.debtor
 wakes_held (held.OfAsleep a) = wakes_with a.debtor
@@ -37,8 +37,7 @@ wakes_held (held.OfCutter c) = wakes_with c.debtor
 
 -- it neither owes anything nor sleeps
 abbrev pub IsAtRest : {T : Type 0} → Held T → Type 0
-IsAtRest (held.OfSender s) = Unit {0}
-IsAtRest (held.OfOwing o) = ⊥
+IsAtRest (held.OfSender k) = IsSettled k
 IsAtRest (held.OfReceiver r) = Unit {0}
 IsAtRest (held.OfLeaving l) = ⊥
 IsAtRest (held.OfAsleep a) = ⊥
@@ -56,8 +55,7 @@ IsEnd h = Unit {0}
 
 -- a sender that does not go, with or without something owed
 abbrev pub IsSending : {T : Type 0} → Held T → Type 0
-IsSending (held.OfSender s) = Unit {0}
-IsSending (held.OfOwing o) = Unit {0}
+IsSending (held.OfSender k) = Unit {0}
 IsSending _ = ⊥
 
 -- a receiver that does not go, also one that sleeps
@@ -75,7 +73,7 @@ HasRetired h = ⊥
 
 -- it was told that the channel is closed, for ever
 abbrev pub WasTold : {T : Type 0} → Held T → Type 0
-WasTold (held.OfSender s) = IsBehind s.end
+WasTold (held.OfSender k) = IsKeptBehind k
 WasTold (held.OfReceiver r) = IsBehind r.end
 WasTold _ = ⊥
 
@@ -120,21 +118,27 @@ abbrev pub HasPaid : {T : Type 0} → ℕ → Held T → Held T → Type 0
 HasPaid n h k = OnlyTold n h k × (IsSending h → IsSending k) × (IsReceiving h → IsReceiving k)
     × (IsAsleep k → ⊥)
 
+-- the same of a sender that owed something
+abbrev pub OwedPaid : {T : Type 0} → ℕ → Owing T → Held T → Type 0
+OwedPaid n o k = NoMore (stand_with o.debtor) (stand_held k) × Tells n (wakes_with o.debtor) (wakes_held k) × IsSending k
+    × (IsAsleep k → ⊥)
+
 -- ---- ends that are made
 -- the handles lead to a sender and a receiver of one channel, which did nothing yet
 abbrev pub AreNew : Held ℕ → Held ℕ → Type 0
-AreNew (held.OfSender s) (held.OfReceiver r) = AreOfOneChannel s.end r.end × IsFresh s.end × IsFresh r.end
+AreNew (held.OfSender k) (held.OfReceiver r) = (r.end.chair.table_id ≡ k.chair.table_id) × IsKeptFresh k × IsFresh r.end
 AreNew h k = ⊥
 
 -- the second handle leads to an end that did nothing yet, of the same kind and channel as the first one's
 abbrev pub IsAnother : Held ℕ → Held ℕ → Type 0
-IsAnother (held.OfSender s) (held.OfSender t) = AreOfOneChannel s.end t.end × IsFresh t.end
+IsAnother (held.OfSender k) (held.OfSender l) = (l.chair.table_id ≡ k.chair.table_id) × IsSettled k × IsKeptFresh l
 IsAnother (held.OfReceiver r) (held.OfReceiver q) = AreOfOneChannel r.end q.end × IsFresh q.end
 IsAnother h k = ⊥
 
 -- the end has sent and received what it had
 abbrev pub StaysSo : {T : Type 0} → Held T → Held T → Type 0
-StaysSo (held.OfSender s) (held.OfSender t) = log_of t.end ≡ log_of s.end
+StaysSo (held.OfSender k) (held.OfSender l) = (log_kept l ≡ log_kept k) × (IsSettled k → IsSettled l)
+    × ((IsSettled k → ⊥) → l ≡ k)
 StaysSo (held.OfReceiver r) (held.OfReceiver q) = log_of q.end ≡ log_of r.end
 StaysSo h k = k ≡ h
 

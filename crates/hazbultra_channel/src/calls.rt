@@ -1,5 +1,5 @@
 //! The calls that send and receive.
-ghost use Rattle.std.specs.Prelude.{◌≡◌, ◌≢◌, ◌↔◌, ◌⊎◌, ◌<◌};
+ghost use Rattle.std.specs.Prelude.{◌≡◌, ◌≢◌, ◌↔◌, ◌⊎◌, ◌<◌, Some};
 ghost use Rattle.mb_channel.specs.Standing.{OneGot, OneSent};
 ghost use Rattle.mb_channel.specs.Wakes.{Tells};
 ghost use Rattle.mb_channel.specs.declared.held.Held.TheVariants as held;
@@ -11,9 +11,9 @@ ghost use Rattle.hazbultra_channel.specs.declared.codes.TheConstants.{NOTHING, S
 
 use crate::codes::{AGAIN, BAD_HANDLE, DONE, NOTHING, SLEEPS, TOOK, code_of};
 use crate::handle::End;
-use crate::paying::pay_some;
+use crate::paying::{pay_some, pay_there};
 use crate::thing::{Thing, WakeOut};
-use mb_channel::{Asleep, Held, Polled, Receiver, Sender, Sending, Stored, Tried};
+use mb_channel::{Asleep, Held, KeptSender, Polled, Posted, Receiver, Sending, Stored, Tried};
 use std::mem;
 
 /// Sends a value, behind all that the sender sent before. The call returns `DONE` if it was sent. Else it was not:
@@ -46,39 +46,79 @@ pub extern "C" fn hz_channel_send(sender: &mut End, value: u64, wake: &mut WakeO
     let Some(opened) = sender.lend() else {
         return BAD_HANDLE;
     };
+    let posted = match &mut *opened {
+        Thing::OfEnd(stored) => match &mut stored.held {
+            Held::OfSender(kept) => kept.send_here(value),
+            _ => return BAD_HANDLE,
+        },
+        Thing::OfNothing => return BAD_HANDLE,
+    };
+    match posted {
+        Posted::Sent => DONE,
+        Posted::Owes => {
+            pay_there(opened, wake);
+            DONE
+        }
+        Posted::Back(_) => send_further(opened, value, wake),
+    }
+}
+
+/// The same where more is to do than to send in one segment.
+#[cold]
+#[inline(never)]
+fn send_further(opened: &mut Thing, value: u64, wake: &mut WakeOut) -> u32
+    requires sender { EndMade IsSending (Some opened.old) }
+    requires nothing { (wake.old.threads ≡ 0) × (wake.old.owes ≡ 0) }
+    ensures sent { result ≡ DONE
+        → EndWent (λ h k. OneSent value (stand_held h) (stand_held k)
+        × Tells wake.new.threads (wakes_held h) (wakes_held k))
+        (Some opened.old) (Some opened.new) }
+    ensures unsent { result ≢ DONE
+        → EndWent (OnlyTold wake.new.threads) (Some opened.old) (Some opened.new) }
+    ensures closed { result ≡ CLOSED → EndMade WasTold (Some opened.new) }
+    ensures still_closed { EndMade WasTold (Some opened.old) → result ≡ CLOSED }
+    ensures rest { wake.new.owes ≡ 0 → EndMade IsAtRest (Some opened.new) }
+    ensures codes { (result ≡ DONE) ⊎ (result ≡ AGAIN) ⊎ IsRefusal result }
+    ensures still { EndMade IsSending (Some opened.new) }
+    ensures wake { IsWake wake.new }
+    ensures place { 0 < wake.new.threads
+        → EndMade (λ k. wake.new.place ≡ place_held k) (Some opened.new) }
+{
     let Thing::OfEnd(stored) = mem::replace(opened, Thing::OfNothing) else {
-        return BAD_HANDLE;
+        unreachable!()
     };
     let (held, code) = match stored.take() {
-        Held::OfSender(sender) => send(sender, value, wake),
-        Held::OfOwing(owing) => (pay_some(Held::OfOwing(owing), wake), AGAIN),
-        other => (other, BAD_HANDLE),
+        Held::OfSender(kept) => send(kept, value, wake),
+        _ => unreachable!(),
     };
     *opened = Thing::OfEnd(Stored::new(held));
     code
 }
 
-#[inline(always)]
-fn send(sender: Sender<u64>, value: u64, wake: &mut WakeOut) -> (Held<u64>, u32)
+fn send(kept: KeptSender<u64>, value: u64, wake: &mut WakeOut) -> (Held<u64>, u32)
     requires { (wake.old.threads ≡ 0) × (wake.old.owes ≡ 0) }
     ensures sent { result.1 ≡ DONE
-        → OneSent value (stand_held (held.OfSender sender)) (stand_held result.0)
-        × Tells wake.new.threads (wakes_held (held.OfSender sender)) (wakes_held result.0) }
+        → OneSent value (stand_held (held.OfSender kept)) (stand_held result.0)
+        × Tells wake.new.threads (wakes_held (held.OfSender kept)) (wakes_held result.0) }
     ensures unsent { result.1 ≢ DONE
-        → OnlyTold wake.new.threads (held.OfSender sender) result.0 }
+        → OnlyTold wake.new.threads (held.OfSender kept) result.0 }
     ensures closed { result.1 ≡ CLOSED → WasTold result.0 }
-    ensures still_closed { WasTold (held.OfSender sender) → result.1 ≡ CLOSED }
+    ensures still_closed { WasTold (held.OfSender kept) → result.1 ≡ CLOSED }
     ensures rest { wake.new.owes ≡ 0 → IsAtRest result.0 }
     ensures codes { (result.1 ≡ DONE) ⊎ (result.1 ≡ AGAIN) ⊎ IsRefusal result.1 }
     ensures sending { IsSending result.0 }
     ensures wake { IsWake wake.new }
     ensures place { 0 < wake.new.threads → wake.new.place ≡ place_held result.0 }
 {
+    let sender = match kept.take() {
+        Ok(sender) => sender,
+        Err(owing) => return (pay_some(Held::OfSender(owing.keep()), wake), AGAIN),
+    };
     match sender.try_send(value) {
-        Sending::Sent(sender) => (Held::OfSender(sender), DONE),
-        Sending::Owes(owing) => (pay_some(Held::OfOwing(owing), wake), DONE),
-        Sending::Again(sender, _) => (Held::OfSender(sender), AGAIN),
-        Sending::Refused(sender, unsent) => (Held::OfSender(sender), code_of(unsent.why)),
+        Sending::Sent(sender) => (Held::OfSender(sender.keep()), DONE),
+        Sending::Owes(owing) => (pay_some(Held::OfSender(owing.keep()), wake), DONE),
+        Sending::Again(sender, _) => (Held::OfSender(sender.keep()), AGAIN),
+        Sending::Refused(sender, unsent) => (Held::OfSender(sender.keep()), code_of(unsent.why)),
     }
 }
 
@@ -146,6 +186,7 @@ fn receive(receiver: Receiver<u64>, value: &mut u64, wake: &mut WakeOut) -> (Hel
     ensures rest { result.1 ≢ SLEEPS → wake.new.owes ≡ 0 → IsAtRest result.0 }
     ensures codes { (result.1 ≡ TOOK) ⊎ (result.1 ≡ SLEEPS) ⊎ (result.1 ≡ AGAIN)
         ⊎ (result.1 ≡ CLOSED) ⊎ (result.1 ≡ CROWDED) }
+    ensures good { result.1 ≢ BAD_HANDLE }
     ensures receiving { IsReceiving result.0 }
     ensures kept { result.1 ≢ TOOK → value.new ≡ value.old }
     ensures wake { IsWake wake.new }
@@ -182,6 +223,7 @@ fn wake_up(asleep: Asleep<u64>, value: &mut u64, wake: &mut WakeOut) -> (Held<u6
     ensures place { (result.1 ≡ SLEEPS) ⊎ (0 < wake.new.threads)
         → wake.new.place ≡ place_held result.0 }
     ensures codes { (result.1 ≡ TOOK) ⊎ (result.1 ≡ SLEEPS) ⊎ (result.1 ≡ AGAIN) }
+    ensures good { result.1 ≢ BAD_HANDLE }
     ensures rest { result.1 ≢ SLEEPS → wake.new.owes ≡ 0 → IsAtRest result.0 }
     ensures receiving { IsReceiving result.0 }
     ensures kept { result.1 ≢ TOOK → value.new ≡ value.old }
@@ -229,32 +271,31 @@ pub extern "C" fn hz_channel_try_receive(receiver: &mut End, value: &mut u64) ->
     let Some(opened) = receiver.lend() else {
         return BAD_HANDLE;
     };
-    let Thing::OfEnd(stored) = mem::replace(opened, Thing::OfNothing) else {
-        return BAD_HANDLE;
-    };
-    let (held, code) = match stored.take() {
-        Held::OfReceiver(receiver) => try_receive(receiver, value),
-        Held::OfLeaving(leaving) => (Held::OfLeaving(leaving), AGAIN),
-        Held::OfAsleep(asleep) => (Held::OfAsleep(asleep), AGAIN),
-        other => (other, BAD_HANDLE),
-    };
-    *opened = Thing::OfEnd(Stored::new(held));
-    code
+    match opened {
+        Thing::OfEnd(stored) => match &mut stored.held {
+            Held::OfReceiver(receiver) => try_receive(receiver, value),
+            Held::OfLeaving(_) | Held::OfAsleep(_) => AGAIN,
+            _ => BAD_HANDLE,
+        },
+        Thing::OfNothing => BAD_HANDLE,
+    }
 }
 
 #[inline(always)]
-fn try_receive(receiver: Receiver<u64>, value: &mut u64) -> (Held<u64>, u32)
-    ensures took { result.1 ≡ TOOK → Got value.new (held.OfReceiver receiver) result.0 }
-    ensures none { result.1 ≢ TOOK → GotNothing (held.OfReceiver receiver) result.0 }
-    ensures nothing { result.1 ≡ NOTHING → FoundNothing (held.OfReceiver receiver) result.0 }
-    ensures closed { result.1 ≡ CLOSED → WasTold result.0 }
-    ensures still_closed { WasTold (held.OfReceiver receiver) → result.1 ≡ CLOSED }
-    ensures codes { (result.1 ≡ TOOK) ⊎ (result.1 ≡ NOTHING) ⊎ (result.1 ≡ AGAIN)
-        ⊎ (result.1 ≡ CLOSED) ⊎ (result.1 ≡ CROWDED) }
-    ensures kept { result.1 ≢ TOOK → value.new ≡ value.old }
+fn try_receive(receiver: &mut Receiver<u64>, value: &mut u64) -> u32
+    ensures took { result ≡ TOOK
+        → Got value.new (held.OfReceiver receiver.old) (held.OfReceiver receiver.new) }
+    ensures none { result ≢ TOOK
+        → GotNothing (held.OfReceiver receiver.old) (held.OfReceiver receiver.new) }
+    ensures nothing { result ≡ NOTHING
+        → FoundNothing (held.OfReceiver receiver.old) (held.OfReceiver receiver.new) }
+    ensures closed { result ≡ CLOSED → WasTold (held.OfReceiver receiver.new) }
+    ensures still_closed { WasTold (held.OfReceiver receiver.old) → result ≡ CLOSED }
+    ensures codes { (result ≡ TOOK) ⊎ (result ≡ NOTHING) ⊎ (result ≡ AGAIN)
+        ⊎ (result ≡ CLOSED) ⊎ (result ≡ CROWDED) }
+    ensures kept { result ≢ TOOK → value.new ≡ value.old }
 {
-    let mut receiver = receiver;
-    let code = match receiver.try_receive() {
+    match receiver.try_receive() {
         Ok(Tried::Value(taken)) => {
             *value = taken;
             TOOK
@@ -262,6 +303,5 @@ fn try_receive(receiver: Receiver<u64>, value: &mut u64) -> (Held<u64>, u32)
         Ok(Tried::Empty) => NOTHING,
         Ok(Tried::Again) => AGAIN,
         Err(why) => code_of(why),
-    };
-    (Held::OfReceiver(receiver), code)
+    }
 }

@@ -1,12 +1,13 @@
 //! The calls that make a channel and its ends.
-ghost use Rattle.std.specs.Prelude.{◌≡◌, ◌≢◌, ◌↔◌, ◌⊎◌, IfErr, IfOk, None};
-ghost use Rattle.hazbultra_channel.specs.Ends.{AreNew, EndMade, EndWent, IsAnother, IsEnd, StaysSo, WasTold};
+ghost use Rattle.std.specs.Prelude.{◌≡◌, ◌≢◌, ◌↔◌, ◌⊎◌, IfErr, IfOk, IfSome, None, Some};
+ghost use Rattle.hazbultra_channel.specs.Ends.{AreNew, EndMade, EndWent, IsAnother, IsAtRest, IsEnd, StaysSo, WasTold};
+ghost use Rattle.mb_channel.specs.declared.held.Held.TheVariants as held;
 ghost use Rattle.hazbultra_channel.specs.declared.codes.TheConstants.{AGAIN, BAD_HANDLE, CROWDED, DONE, NO_MEMORY};
 
 use crate::codes::{AGAIN, BAD_HANDLE, CROWDED, DONE, NO_MEMORY};
 use crate::handle::End;
 use crate::thing::Thing;
-use mb_channel::{Held, Stored, unbounded};
+use mb_channel::{Held, KeptSender, Stored, unbounded};
 use std::alloc::Global;
 use std::mem;
 
@@ -24,19 +25,29 @@ pub extern "C" fn hz_channel_new(alloc: Global, sender: &mut End, receiver: &mut
     if !sender.is_none() || !receiver.is_none() {
         return BAD_HANDLE;
     }
-    let Ok((sends, receives)) = unbounded::<u64>(alloc) else {
+    let Some((sends, receives)) = new_ends(alloc) else {
         return NO_MEMORY;
     };
-    let Ok(sending) = Box::new(alloc, Thing::OfEnd(Stored::new(Held::OfSender(sends)))) else {
+    let Ok(sending) = Box::new(alloc, sends) else {
         return NO_MEMORY;
     };
-    let Ok(receiving) = Box::new(alloc, Thing::OfEnd(Stored::new(Held::OfReceiver(receives))))
-    else {
+    let Ok(receiving) = Box::new(alloc, receives) else {
         return NO_MEMORY;
     };
     sender.give(sending);
     receiver.give(receiving);
     DONE
+}
+
+/// A sender and a receiver of a new channel, if there is memory.
+fn new_ends(alloc: Global) -> Option<(Thing, Thing)>
+    ensures { IfSome result (λ p. EndWent AreNew (Some p.0) (Some p.1)) }
+{
+    let (sends, receives) = unbounded::<u64>(alloc).ok()?;
+    Some((
+        Thing::OfEnd(Stored::new(Held::OfSender(sends.keep()))),
+        Thing::OfEnd(Stored::new(Held::OfReceiver(receives))),
+    ))
 }
 
 /// Makes another end of the same kind, sender or receiver, at the place of this one. The call returns `BAD_HANDLE` if
@@ -91,13 +102,7 @@ fn make_another(held: Held<u64>) -> (Held<u64>, Result<Held<u64>, u32>)
     ensures codes { IfErr result.1 (λ code. (code ≡ AGAIN) ⊎ (code ≡ CROWDED)) }
 {
     match held {
-        Held::OfSender(sender) => {
-            let mut sender = sender;
-            match sender.another() {
-                Some(made) => (Held::OfSender(sender), Ok(Held::OfSender(made))),
-                None => (Held::OfSender(sender), Err(CROWDED)),
-            }
-        }
+        Held::OfSender(kept) if !kept.owes() => another_sender(kept),
         Held::OfReceiver(receiver) => {
             let mut receiver = receiver;
             match receiver.another() {
@@ -106,5 +111,25 @@ fn make_another(held: Held<u64>) -> (Held<u64>, Result<Held<u64>, u32>)
             }
         }
         other => (other, Err(AGAIN)),
+    }
+}
+
+fn another_sender(kept: KeptSender<u64>) -> (Held<u64>, Result<Held<u64>, u32>)
+    requires { IsAtRest (held.OfSender kept) }
+    ensures same { StaysSo (held.OfSender kept) result.0 }
+    ensures made { IfOk result.1 (IsAnother (held.OfSender kept)) }
+    ensures told_on { WasTold (held.OfSender kept) → WasTold result.0 }
+    ensures codes { IfErr result.1 (λ code. code ≡ CROWDED) }
+{
+    let mut sender = match kept.take() {
+        Ok(sender) => sender,
+        Err(owing) => return (Held::OfSender(owing.keep()), Err(CROWDED)),
+    };
+    match sender.another() {
+        Some(made) => (
+            Held::OfSender(sender.keep()),
+            Ok(Held::OfSender(made.keep())),
+        ),
+        None => (Held::OfSender(sender.keep()), Err(CROWDED)),
     }
 }

@@ -10,7 +10,7 @@ use crate::codes::{AGAIN, BAD_HANDLE, DONE};
 use crate::handle::End;
 use crate::paying::pay_some;
 use crate::thing::{Thing, WakeOut};
-use mb_channel::{Departing, Held, Sender, Stored};
+use mb_channel::{Departing, Held, KeptSender, Stored};
 use std::mem;
 
 /// Closes the channel, for ever. The call returns `DONE` if that is done, `AGAIN` if it has to be called again, and
@@ -42,29 +42,32 @@ pub extern "C" fn hz_channel_close(sender: &mut End, wake: &mut WakeOut) -> u32
         return BAD_HANDLE;
     };
     let (held, code) = match stored.take() {
-        Held::OfSender(sender) => close(sender, wake),
-        Held::OfOwing(owing) => (pay_some(Held::OfOwing(owing), wake), AGAIN),
+        Held::OfSender(kept) => close(kept, wake),
         other => (other, BAD_HANDLE),
     };
     *opened = Thing::OfEnd(Stored::new(held));
     code
 }
 
-fn close(sender: Sender<u64>, wake: &mut WakeOut) -> (Held<u64>, u32)
+fn close(kept: KeptSender<u64>, wake: &mut WakeOut) -> (Held<u64>, u32)
     requires { (wake.old.threads ≡ 0) × (wake.old.owes ≡ 0) }
-    ensures told { OnlyTold wake.new.threads (held.OfSender sender) result.0 }
+    ensures told { OnlyTold wake.new.threads (held.OfSender kept) result.0 }
     ensures done { result.1 ≡ DONE → WasTold result.0 }
-    ensures told_on { WasTold (held.OfSender sender) → WasTold result.0 }
+    ensures told_on { WasTold (held.OfSender kept) → WasTold result.0 }
     ensures rest { wake.new.owes ≡ 0 → IsAtRest result.0 }
     ensures codes { (result.1 ≡ DONE) ⊎ (result.1 ≡ AGAIN) }
     ensures sending { IsSending result.0 }
     ensures wake { IsWake wake.new }
     ensures place { 0 < wake.new.threads → wake.new.place ≡ place_held result.0 }
 {
+    let sender = match kept.take() {
+        Ok(sender) => sender,
+        Err(owing) => return (pay_some(Held::OfSender(owing.keep()), wake), AGAIN),
+    };
     match sender.try_close() {
-        Ok((sender, true)) => (Held::OfSender(sender), DONE),
-        Ok((sender, false)) => (Held::OfSender(sender), AGAIN),
-        Err(owing) => (pay_some(Held::OfOwing(owing), wake), AGAIN),
+        Ok((sender, true)) => (Held::OfSender(sender.keep()), DONE),
+        Ok((sender, false)) => (Held::OfSender(sender.keep()), AGAIN),
+        Err(owing) => (pay_some(Held::OfSender(owing.keep()), wake), AGAIN),
     }
 }
 
@@ -121,13 +124,27 @@ fn go(held: Held<u64>, wake: &mut WakeOut) -> Option<Held<u64>>
 {
     match held {
         // It stays in the handle until it has cut what it has to.
-        Held::OfSender(sender) => Some(match sender.try_retire() {
-            Ok(departing) => Held::OfDeparting(departing),
-            Err(sender) => Held::OfSender(sender),
-        }),
+        Held::OfSender(kept) => Some(retire(kept, wake)),
         Held::OfReceiver(receiver) => depart(receiver.retire(), wake),
         Held::OfDeparting(departing) => depart(departing, wake),
         owing => Some(pay_some(owing, wake)),
+    }
+}
+
+fn retire(kept: KeptSender<u64>, wake: &mut WakeOut) -> Held<u64>
+    requires { (wake.old.threads ≡ 0) × (wake.old.owes ≡ 0) }
+    ensures going { IsGoing wake.new.threads (held.OfSender kept) result }
+    ensures retires { Retires (held.OfSender kept) result }
+    ensures rest { wake.new.owes ≡ 0 → IsAtRest result }
+    ensures wake { IsWake wake.new }
+    ensures place { 0 < wake.new.threads → wake.new.place ≡ place_held result }
+{
+    match kept.take() {
+        Ok(sender) => match sender.try_retire() {
+            Ok(departing) => Held::OfDeparting(departing),
+            Err(sender) => Held::OfSender(sender.keep()),
+        },
+        Err(owing) => pay_some(Held::OfSender(owing.keep()), wake),
     }
 }
 

@@ -16,7 +16,7 @@ mod Moves
 mod Order
 mod Places
 mod Rests
-mod Since
+pub mod Since
 mod Stays
 pub mod Theorems
 mod Turns

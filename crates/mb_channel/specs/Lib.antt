@@ -21,3 +21,6 @@ pub mod Rests
 pub mod Closing
 pub mod Tallies
 pub mod HomeSamples
+pub mod Places
+pub mod Posted
+pub mod Kept

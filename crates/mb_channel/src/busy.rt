@@ -40,7 +40,7 @@ pub struct Busy<T: Drop> {
 }
 
 impl<T: Drop> Busy<T> {
-    ghost use Rattle.std.specs.Prelude.{IfErr, IfOk};
+    ghost use Rattle.std.specs.Prelude.{◌≢◌, IfErr, IfOk};
     ghost use Rattle.mb_channel.specs.declared.busy.Debt.TheVariants as owed;
     ghost use Rattle.mb_channel.specs.Wakes.{Tells, one_if, wakes_by, wakes_in};
     ghost use Rattle.mb_channel.specs.Work.{IsAwake, IsStill, work_in, work_of};
@@ -175,7 +175,9 @@ impl<T: Drop> Busy<T> {
     pub(crate) fn rest(self) -> Result<Inside<T>, Busy<T>>
         ensures rest { IfOk result (λ i. IsStill (work_of self) (work_in i)) }
         ensures wakes { IfOk result (λ i. Tells 0 (wakes_by self) (wakes_in i)) }
-        ensures back { IfErr result (λ b. b ≡ self) }
+        ensures same { IfOk result (λ i. (i.segment ≡ self.segment)
+            × (i.pass.seat ≡ self.pass.seat) × (self.debt ≡ owed.Nothing)) }
+        ensures back { IfErr result (λ b. (b ≡ self) × (self.debt ≢ owed.Nothing)) }
     {
         if self.debt != Debt::Nothing {
             return Err(self);

@@ -9,6 +9,7 @@ use crate::inside::Inside;
 use crate::list::{Chair, SharedList};
 use crate::tried::Tried;
 use mb_segment::Received;
+use std::mem;
 use std::sync::Wait;
 use std::time::{Clock, Instant};
 
@@ -139,6 +140,7 @@ impl<T: Drop> End<T> {
 
     /// Tries to receive a value in the segment where the end is. `None` if the end is in none, or if none can come there
     /// any more.
+    #[inline(always)]
     pub(crate) fn try_receive(&mut self) -> Option<Tried<T>>
         requires takes { (view_of self.old).takes ≡ true }
         ensures chair { self.new.chair ≡ self.old.chair }
@@ -155,7 +157,8 @@ impl<T: Drop> End<T> {
     {
         let inside = self.inside.take()?;
         let (inside, tried) = inside.try_receive();
-        self.inside = Some(inside);
+        // (a plain write would look whether there is something to drop)
+        mem::forget(mem::replace(&mut self.inside, Some(inside)));
         if tried.is_none() {
             self.over = true;
         }

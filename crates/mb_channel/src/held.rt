@@ -3,15 +3,14 @@ ghost use Rattle.std.specs.Prelude.{◌≡◌};
 
 use crate::debtor::Debtor;
 use crate::departing::{Cutter, Departing};
-use crate::end::{Receiver, Sender};
+use crate::end::Receiver;
+use crate::kept::KeptSender;
 use crate::polls::{Asleep, Leaving};
-use crate::try_sends::Owing;
 
 /// An end, whatever it owes. It cannot be dropped.
 pub enum Held<T: Drop> {
-    OfSender(Sender<T>),
-    /// Its value is sent, and something is owed.
-    OfOwing(Owing<T>),
+    /// It may owe something for a value that it sent.
+    OfSender(KeptSender<T>),
     OfReceiver(Receiver<T>),
     /// It does not sleep, and owes something.
     OfLeaving(Leaving<T>),
@@ -46,8 +45,7 @@ impl<T: Drop> Stored<T> {
 impl<T: Drop> Drop for Stored<T> {
     fn drop(self) {
         match self.take() {
-            Held::OfSender(end) => drop(end),
-            Held::OfOwing(Owing { debtor }) => debtor.let_go(),
+            Held::OfSender(kept) => kept.let_go(),
             Held::OfReceiver(end) => drop(end),
             Held::OfLeaving(Leaving { debtor }) => debtor.let_go(),
             Held::OfAsleep(Asleep { debtor }) => debtor.let_go(),

@@ -96,6 +96,7 @@ impl<T: Drop> Receiver<T> {
     }
 
     /// The same without waiting: a few tries.
+    #[inline(always)]
     pub fn try_receive(&mut self) -> Result<Tried<T>, Refused>
         ensures end { IsSame self.old.end self.new.end }
         ensures answer { IfOk result (λ t. OfTried t
@@ -111,12 +112,37 @@ impl<T: Drop> Receiver<T> {
         ensures wakes { Tells 0 (wakes_of self.old.end) (wakes_of self.new.end) }
         ensures memory { IfErr result (λ why. why ≢ NoMemory) }
     {
+        match self.end.try_receive() {
+            Some(tried) => Ok(tried),
+            None => self.try_further(),
+        }
+    }
+
+    /// The same from the next segment on.
+    #[cold]
+    #[inline(never)]
+    fn try_further(&mut self) -> Result<Tried<T>, Refused>
+        requires over { IsOver self.old.end }
+        ensures end { IsSame self.old.end self.new.end }
+        ensures answer { IfOk result (λ t. OfTried t
+            (λ x. OneGot x (stand_of self.old.end) (stand_of self.new.end))
+            ((SawEmpty (stand_of self.old.end) (stand_of self.new.end)
+            ⊎ FoundNone (stand_of self.old.end) (stand_of self.new.end))
+            × (got_by self.new.end ≡ got_by self.old.end))
+            (got_by self.new.end ≡ got_by self.old.end)) }
+        ensures none { OnErr result (got_by self.new.end ≡ got_by self.old.end) }
+        ensures closed { IfErr result (λ why. IfClosed why (IsBehind self.new.end)) }
+        ensures still { IsBehind self.old.end → result ≡ Err Closed }
+        ensures sent { sent_by self.new.end ≡ sent_by self.old.end }
+        ensures wakes { Tells 0 (wakes_of self.old.end) (wakes_of self.new.end) }
+        ensures memory { IfErr result (λ why. why ≢ NoMemory) }
+    {
         for _ in 0..TRIES {
-            if let Some(tried) = self.end.try_receive() {
-                return Ok(tried);
-            }
             if !self.end.go_on(true, false)? {
                 return Ok(Tried::Empty);
+            }
+            if let Some(tried) = self.end.try_receive() {
+                return Ok(tried);
             }
         }
         Ok(Tried::Again)
