@@ -19,6 +19,8 @@ pub extern "C" fn hz_channel_pay(end: &mut End, wake: &mut WakeOut) -> u32
     ensures paid { result ≢ BAD_HANDLE
         → EndWent (HasPaid wake.new.threads) end.old.block.thing end.new.block.thing }
     ensures done { result ≡ DONE → EndMade IsAtRest end.new.block.thing }
+    ensures rest { result ≢ BAD_HANDLE → wake.new.owes ≡ 0
+        → EndMade IsAtRest end.new.block.thing }
     ensures told_on { EndMade WasTold end.old.block.thing → EndMade WasTold end.new.block.thing }
     ensures retired { EndMade HasRetired end.old.block.thing
         → EndMade HasRetired end.new.block.thing }

@@ -148,7 +148,7 @@ impl<T: Drop> KeptSender<T> {
     }
 
     /// Tries to send a value in the segment where the sender is, behind all that it sent before. A sender that owes
-    /// something gives it back. It makes a few accesses, and wakes nobody.
+    /// something gives the value back. It makes a few accesses, and wakes nobody.
     #[inline(always)]
     pub fn send_here(&mut self, value: T) -> Posted<T>
         ensures answer { OfPosted result value (stand_kept self.old) (stand_kept self.new)
@@ -156,6 +156,9 @@ impl<T: Drop> KeptSender<T> {
         ensures wakes { Tells 0 (wakes_kept self.old) (wakes_kept self.new) }
         ensures outside { is_some self.old.busy ≡ false
             → (result ≡ posted.Back value) × (self.new ≡ self.old) }
+        ensures owing { (IsSettled self.old → ⊥)
+            → (result ≡ posted.Back value) × (self.new ≡ self.old) }
+        ensures chair { self.new.chair ≡ self.old.chair }
     {
         let Some(busy) = &mut self.busy else {
             return Posted::Back(value);
