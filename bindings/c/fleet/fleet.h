@@ -60,7 +60,7 @@ extern struct shared {
     uint64_t waiting; /* how many jobs no worker has taken yet */
     uint64_t running;
     uint64_t events; /* how many rounds of the main thread may have put jobs */
-    atomic_bool is_stopping; /* set while the lock is held */
+    atomic_bool is_stopping; /* set while the lock is held, but read without it too */
 } shared;
 
 /* What this process counts. `held` is how many jobs it has: those of `waiting`, of `running` and the suspects. */

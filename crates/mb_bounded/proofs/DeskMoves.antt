@@ -84,6 +84,7 @@ module _ {T : Type 0} where
       first_is (suc j) u at = absurd (some-ne-none u (sym at))
 
   -- ---- the lock
+  -- an access that changes neither the word nor its own view keeps the rule
   same_state : (r : Ring T Global) (s : OfficeState T) (k : Keeps r s) (id : ℕ) (v : Knows T)
       → get_elem? s.views id ≡ some v → (n : ℕ) → n ≡ slice_index s.words 0
       → Keeps r record { words = slice_set s.words 0 n; homes = s.homes; views = slice_set s.views id v }
@@ -95,6 +96,7 @@ module _ {T : Type 0} where
       subst (λ (z : List ℕ × List (Knows T)). Keeps r record { words = z.0; homes = s.homes; views = z.1 })
       (λ i. (sym ws i, sym vs i)) k
 
+  -- an end may try the lock: it gets the desk, or nothing changes
   pub locks : (r : Ring T Global) (slots id : ℕ) (me : Sat T)
       → Allows (Keeps r) slots id me 0 (λ n. either (n == 0) 1 n) (takes_lock (step slots 0 0 1 none) me)
   locks r slots id me s k len at small =
@@ -154,6 +156,7 @@ module _ {T : Type 0} where
         ((λ e. absurd (ne e)), λ _. refl),
       ))
 
+  -- the end that has the lock may give the desk back. It is the holder, so the numbers that it knows are right
   pub lets_go : (r : Ring T Global) (slots id : ℕ) (me : Sat T) (d : Desk T) → me.1 ≡ (0, Some d) ∷ []
       → me.0.holds ≡ true → MayGive me.0 d
       → Allows (Keeps r) slots id me 0 (λ _. 0) (λ _. gives_lock (step slots 0 0 0 none) me 0)

@@ -50,10 +50,12 @@ OneHolds {T} views holder = Holds views holder × ((id : ℕ) (v : Knows T) → 
 abbrev pub OfficeState : Type 0 → Type 0
 OfficeState T = State (Option (Desk T)) (Knows T)
 
+-- nobody has the lock: the desk is in its slot, and has the numbers of all ends
 abbrev pub IsFree : {T : Type 0} → Ring T Global → OfficeState T → Type 0
 IsFree {T} r s = (d : Desk T) × (s.words ≡ 0 ∷ []) × (s.homes ≡ some (Some d) ∷ []) × IsDeskOf r d
     × AreCounted s.views d.senders d.receivers × NobodyHolds s.views
 
+-- one end has the lock, and the slot is empty
 abbrev pub IsHeld : {T : Type 0} → OfficeState T → Type 0
 IsHeld s = (holder : ℕ) × (s.words ≡ 1 ∷ []) × (s.homes ≡ none ∷ []) × OneHolds s.views holder
 
