@@ -20,6 +20,8 @@ const NO_END: End = End {
 };
 const DONE: u32 = 0;
 const TOOK: u32 = 1;
+const NOTHING: u32 = 4;
+const AGAIN: u32 = 12;
 
 unsafe extern "C" {
     fn hz_channel(sender: *mut End, receiver: *mut End) -> u32;
@@ -27,6 +29,7 @@ unsafe extern "C" {
     fn hz_receiver_clone(receiver: *mut End, other: *mut End) -> u32;
     fn hz_send(sender: *mut End, value: u64) -> u32;
     fn hz_recv_by(receiver: *mut End, value: *mut u64, deadline: *const c_void) -> u32;
+    fn hz_channel_try_receive(receiver: *mut End, value: *mut u64) -> u32;
     fn hz_sender_free(sender: *mut End) -> u32;
     fn hz_receiver_free(receiver: *mut End) -> u32;
 }
@@ -108,8 +111,12 @@ impl<T: Word + Send> Sending<T> for Proved<T, true> {
 
 impl<T: Word + Send> Receiving<T> for Proved<T, false> {
     fn receive(&self) -> Option<T> {
+        // (it does what the header's inline `hz_recv` does: a look, and then the call that sleeps)
         let mut word = 0;
-        let code = unsafe { hz_recv_by(self.0.get(), &mut word, ptr::null()) };
+        let mut code = unsafe { hz_channel_try_receive(self.0.get(), &mut word) };
+        if code == NOTHING || code == AGAIN {
+            code = unsafe { hz_recv_by(self.0.get(), &mut word, ptr::null()) };
+        }
         (code == TOOK).then(|| unsafe { T::of_word(word) })
     }
 }
