@@ -20,6 +20,8 @@ ghost use Rattle.mb_channel.specs.declared.place.Place.{Place};
 pub fn moments_keep_the_theorem<T>()
     ensures moment { (m : Moment T) → EachKeeps m.segments → InTurn m.segments → KeepsEnd m
         → EachMoment m }
+    ensures turn { (m : Moment T) → EachKeeps m.segments → InTurn m.segments
+        → TakenInTurn (life m) }
 {}
 
 /// Of a whole life: segments that were taken in turn make one channel. Each end did there what it did in the segments.
