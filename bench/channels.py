@@ -20,9 +20,14 @@ import measuring
 
 PROGRAM = measuring.ROOM / "release" / "beside_channels"
 CHANNELS = {"hazbultra": "`hazbultra::channel`", "proved": "the channel for C", "crossbeam": "`crossbeam-channel`", "flume": "`flume`",
-            "async": "`async-channel`", "std": "`std::sync::mpsc`, a lock"}
-# What is sent: a number, or a number in a box.
-SENT = ("u64", "box")
+            "async": "`async-channel`", "std": "`std::sync::mpsc`, a lock",
+            "hazbultra-100": "`hazbultra::channel`, bound 100", "crossbeam-100": "`crossbeam-channel`, bound 100"}
+# Whose figures each of ours are divided by.
+BESIDE = {"hazbultra": "crossbeam", "proved": "crossbeam", "hazbultra-100": "crossbeam-100"}
+# Those of the README's table.
+SHOWN = ("hazbultra", "crossbeam", "flume", "async", "std")
+# What is sent: a number, four numbers, or a number in a box.
+SENT = ("u64", "quad", "box")
 THREADS = ((1, 1), (2, 2), (4, 4), (1, 4), (4, 1), (4, 16))
 COUNTED = (2000, 12000)
 # How many values two runs keep whose memory is compared. Both take more than this script: a child begins with its memory.
@@ -36,6 +41,9 @@ def told(*words):
 def counts(what, sent):
     """The instructions of a value that is received before the next is sent, and of one of many that are sent first."""
     for way in ("relay", "turns"):
+        if way == "turns" and what.endswith("-100"):
+            yield "–"  # (there is no room for all)
+            continue
         yield measuring.by_item(*COUNTED, lambda values: measuring.instructions((PROGRAM, what, sent, way, 1, 1, values)))
 
 
@@ -54,11 +62,10 @@ def ratios(took, what, sent, base="crossbeam"):
 
 def front(took):
     """The rows of the README."""
-    shown = [it for it in CHANNELS if it != "proved"]
-    bytes_row = ["bytes for each `u64` that waits", *map(kept, shown)]
-    named = {"u64": "time, `u64`", "box": "time, each value a `Box`"}
-    rows = [[named[sent], *(ratios(took, it, sent) for it in shown)] for sent in SENT]
-    return measuring.table(["", *map(CHANNELS.get, shown)], [bytes_row, *rows])
+    bytes_row = ["bytes for each `u64` that waits", *map(kept, SHOWN)]
+    named = {"u64": "time, `u64`", "quad": "time, `[u64; 4]`", "box": "time, each value a `Box`"}
+    rows = [[named[sent], *(ratios(took, it, sent) for it in SHOWN)] for sent in SENT]
+    return measuring.table(["", *map(CHANNELS.get, SHOWN)], [bytes_row, *rows])
 
 
 def main():
@@ -81,7 +88,7 @@ def main():
                     return took / options.values
                 runs[what, sent, threads] = run
     took = measuring.medians(options.rounds, runs)
-    if not options.counts and len(channels) == len(CHANNELS):
+    if not options.counts and {*SHOWN} <= {*channels}:
         print(front(took), end="\n\n", flush=True)
     head, rows = ["A value", "instructions: one at a time", "all sent first"], []
     if not options.counts:
@@ -94,10 +101,11 @@ def main():
                 row.append(sorted(late[what, sent, THREADS[-1]])[options.rounds // 2] / 1000)
             rows.append(row)
         figures = {row[0]: row[1:] for row in rows}
-        theirs = figures[f"{CHANNELS['crossbeam']}, {sent}"]
-        for what in ("hazbultra", "proved"):
-            if ours := figures.get(name := f"{CHANNELS[what]}, {sent}"):
-                rows.append([f"{name}, by crossbeam's", *(f"{one / two:.2f}" for one, two in zip(ours, theirs))])
+        for what, other in BESIDE.items():
+            ours, theirs = (figures.get(f"{CHANNELS[it]}, {sent}") for it in (what, other))
+            if ours and theirs:
+                by = ["–" if isinstance(it, str) else f"{it / other:.2f}" for it, other in zip(ours, theirs)]
+                rows.append([f"{CHANNELS[what]}, {sent}, by crossbeam's", *by])
     print(measuring.table(head, rows))
 
 

@@ -62,11 +62,13 @@ class Channels(unittest.TestCase):
     def test_the_rows_of_the_readme(self):
         took = {(what, sent, it): 10 for what in channels.CHANNELS for sent in channels.SENT for it in channels.THREADS}
         took.update({("hazbultra", "u64", (2, 2)): 14.6, ("flume", "box", (1, 1)): 123, ("std", "box", (4, 16)): 9})
+        took["async", "quad", (4, 1)] = 21
         with mock.patch.object(channels, "kept", {"hazbultra": 30.4}.get):
             told = channels.front(took).splitlines()[2:]
         self.assertEqual([it.split(" | ")[1:] for it in told], [
             ["30", "-", "-", "-", "- |"],
             ["1.0 to 1.5", "1", "1.0 to 1.0", "1.0 to 1.0", "1.0 to 1.0 |"],
+            ["1.0 to 1.0", "1", "1.0 to 1.0", "1.0 to 2.1", "1.0 to 1.0 |"],
             ["1.0 to 1.0", "1", "1.0 to 12", "1.0 to 1.0", "0.9 to 1.0 |"],
         ])
 

@@ -61,8 +61,8 @@ if [ "$proved" = --proved ] && { [ ! -f $left ] || [ -n "$(newer)" ]; }; then
 fi
 look prebuilt/mailbox prebuilt/mailbox.txt mailbox_main $left . ./mailbox --build
 for target in aarch64-unknown-linux-gnu x86_64-unknown-linux-gnu; do
-    for it in rust/hazbultra c/hazbultra_channel; do
-        crate=${it#*/} archive=bindings/${it%/*}/prebuilt/$target/lib${it#*/}
+    for crate in hazbultra hazbultra_channel; do
+        archive=bindings/rust/prebuilt/$target/lib$crate
         look $archive.a $archive.txt $crate crates/$crate/out/lib$crate.a crates/$crate rt lib --target $target
     done
 done

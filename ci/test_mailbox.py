@@ -21,8 +21,8 @@ printf '#!/bin/sh\\necho "own $*"\\ncat\\n' >out/mailbox_main
 chmod +x out/mailbox_main
 """
 TARGETS = ("x86_64-unknown-linux-gnu", "aarch64-unknown-linux-gnu")
-PLACES = {"hazbultra": "bindings/rust/prebuilt", "hazbultra_channel": "bindings/c/prebuilt"}
-ARCHIVES = {f"{top}/{it}/lib{crate}.a": (crate, it) for crate, top in PLACES.items() for it in TARGETS}
+CRATES = ("hazbultra", "hazbultra_channel")
+ARCHIVES = {f"bindings/rust/prebuilt/{it}/lib{crate}.a": (crate, it) for crate in CRATES for it in TARGETS}
 FILES = {
     "crates.txt": "# Each crate.\nlow:\nmailbox_main: low clap\nhazbultra staticlib: low\nhazbultra_channel staticlib: low\n",
     "crates/mailbox_main/src/main.rt": "",

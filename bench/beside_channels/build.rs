@@ -1,4 +1,5 @@
-//! Links the channel for C: the archive of its proved calls, and the shell in C, which this compiles.
+//! Links the shell in C of the channel for C, which this compiles. The crate `hazbultra` links the archive of its proved
+//! calls.
 use std::env;
 use std::process::Command;
 
@@ -26,8 +27,6 @@ fn main() {
         &["rcs", &format!("{out}/libchannel_shell.a"), &object],
     );
     println!("cargo::rustc-link-search=native={out}");
-    println!("cargo::rustc-link-search=native={c}/prebuilt/x86_64-unknown-linux-gnu");
     println!("cargo::rustc-link-lib=static=channel_shell");
-    println!("cargo::rustc-link-lib=static=hazbultra_channel");
     println!("cargo::rerun-if-changed={c}");
 }

@@ -178,6 +178,21 @@ WEAK uint32_t hz_receiver_clone(hz_receiver *receiver, hz_receiver *other) {
     return another(&receiver->end, &other->end, receiver->sleepers, &other->sleepers);
 }
 
+static uint32_t count(hz_end *end, uint64_t *len) {
+    uint32_t code;
+    for (unsigned tries = 0; (code = hz_channel_len(end, len)) == HZ_AGAIN; tries++)
+        pause_after(tries);
+    return code;
+}
+
+WEAK uint32_t hz_sender_len(hz_sender *sender, uint64_t *len) {
+    return count(&sender->end, len);
+}
+
+WEAK uint32_t hz_receiver_len(hz_receiver *receiver, uint64_t *len) {
+    return count(&receiver->end, len);
+}
+
 WEAK uint32_t hz_close(hz_sender *sender) {
     return finish(hz_channel_close, &sender->end, sender->sleepers);
 }

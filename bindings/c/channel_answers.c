@@ -61,6 +61,8 @@ static void a_sleeper_is_woken(void) {
     EXPECT(hz_channel_receive(&receiver, &value, &wake) == HZ_SLEEPS);
     EXPECT(hz_channel_try_receive(&receiver, &value) == HZ_AGAIN);
     EXPECT(hz_channel_another(&receiver, &other) == HZ_AGAIN && is_none(other));
+    EXPECT(hz_channel_len(&receiver, &value) == HZ_AGAIN && value == 7);
+    EXPECT(hz_channel_len(&sender, &value) == HZ_DONE && value == 0);
     EXPECT(hz_channel_send(&sender, 8, &wake) == HZ_DONE);
     EXPECT(wake.threads == 1 && wake.place == place && wake.owes == 0);
     EXPECT(hz_channel_send(&sender, 9, &wake) == HZ_DONE);
@@ -114,6 +116,7 @@ static void bad_handles_have_a_code(void) {
     EXPECT(hz_channel_send(&other, 1, &wake) == HZ_BAD_HANDLE);
     EXPECT(hz_channel_receive(&other, &value, &wake) == HZ_BAD_HANDLE);
     EXPECT(hz_channel_try_receive(&other, &value) == HZ_BAD_HANDLE);
+    EXPECT(hz_channel_len(&other, &value) == HZ_BAD_HANDLE);
     EXPECT(hz_channel_pay(&other, &wake) == HZ_BAD_HANDLE);
     EXPECT(hz_channel_close(&other, &wake) == HZ_BAD_HANDLE);
     EXPECT(hz_channel_free(&other, &wake) == HZ_BAD_HANDLE);

@@ -24,15 +24,16 @@ enum { MOST = 64 };
 
 static hz_sender senders[MOST];
 static hz_receiver receivers[MOST];
-static uint64_t each;       /* how many values each sender sends */
+static uint64_t each, all;  /* how many values each sender sends, and all together */
 static bool with_deadlines; /* whether receivers sleep until deadlines of 20 us */
 static _Atomic uint64_t came, late;
 static atomic_uchar *seen; /* how often each value came */
 
 static void *send_all(void *given) {
-    uint64_t number = (uintptr_t)given;
+    uint64_t number = (uintptr_t)given, len;
     for (uint64_t i = 0; i < each; i++)
         EXPECT(hz_send(&senders[number], number * each + i) == HZ_DONE);
+    EXPECT(hz_sender_len(&senders[number], &len) == HZ_DONE && len <= all);
     EXPECT(hz_sender_free(&senders[number]) == HZ_DONE);
     return NULL;
 }
@@ -48,7 +49,7 @@ static struct timespec soon(void) {
 
 static void *receive_all(void *given) {
     hz_receiver *self = &receivers[(uintptr_t)given];
-    uint64_t next[MOST] = {0}, value;
+    uint64_t next[MOST] = {0}, value, len;
     for (;;) {
         struct timespec deadline = soon();
         uint32_t code = with_deadlines ? hz_recv_by(self, &value, &deadline) : hz_recv(self, &value);
@@ -62,7 +63,9 @@ static void *receive_all(void *given) {
         EXPECT(value % each >= next[value / each]);
         next[value / each] = value % each + 1;
         EXPECT(seen[value]++ == 0);
-        came++;
+        uint64_t before = came++;
+        if (before % 64 == 0)
+            EXPECT(hz_receiver_len(self, &len) == HZ_DONE && before + len < all);
     }
     EXPECT(hz_receiver_free(self) == HZ_DONE);
     return NULL;
@@ -71,9 +74,10 @@ static void *receive_all(void *given) {
 static void shape(unsigned sending, unsigned receiving, uint64_t many, bool deadlines) {
     pthread_t threads[2 * MOST];
     each = many / sending;
+    all = each * sending;
     with_deadlines = deadlines;
     came = late = 0;
-    seen = calloc(each * sending, 1);
+    seen = calloc(all, 1);
     EXPECT(seen);
     EXPECT(hz_channel(&senders[0], &receivers[0]) == HZ_DONE);
     for (unsigned i = 1; i < sending; i++)
@@ -86,7 +90,7 @@ static void shape(unsigned sending, unsigned receiving, uint64_t many, bool dead
         EXPECT(!pthread_create(&threads[receiving + i], NULL, send_all, (void *)i));
     for (unsigned i = 0; i < sending + receiving; i++)
         EXPECT(!pthread_join(threads[i], NULL));
-    EXPECT(came == each * sending);
+    EXPECT(came == all);
     free(seen);
     printf("%ux%u%s: %llu values, each once, in order\n", sending, receiving, deadlines ? ", with deadlines" : "",
            (unsigned long long)came);
@@ -129,9 +133,32 @@ static void closing_wakes(void) {
     EXPECT(hz_close(&sender) == HZ_BAD_HANDLE);
 }
 
+/* Values wait in two segments of the channel, and both kinds of ends count them. */
+static void ends_count(void) {
+    hz_sender sender = HZ_NO_SENDER;
+    hz_receiver receiver = HZ_NO_RECEIVER;
+    uint64_t value, len = 7;
+    EXPECT(hz_sender_len(&sender, &len) == HZ_BAD_HANDLE && hz_receiver_len(&receiver, &len) == HZ_BAD_HANDLE && len == 7);
+    EXPECT(hz_channel(&sender, &receiver) == HZ_DONE);
+    EXPECT(hz_receiver_len(&receiver, &len) == HZ_DONE && len == 0);
+    for (uint64_t i = 0; i < 100; i++)
+        EXPECT(hz_send(&sender, i) == HZ_DONE);
+    for (uint64_t i = 0; i < 30; i++)
+        EXPECT(hz_recv(&receiver, &value) == HZ_TOOK && value == i);
+    EXPECT(hz_sender_len(&sender, &len) == HZ_DONE && len == 70);
+    for (uint64_t i = 30; i < 100; i++) {
+        EXPECT(hz_recv(&receiver, &value) == HZ_TOOK && value == i);
+        EXPECT(hz_receiver_len(&receiver, &len) == HZ_DONE && len == 99 - i);
+    }
+    EXPECT(hz_sender_free(&sender) == HZ_DONE && hz_recv(&receiver, &value) == HZ_CLOSED);
+    EXPECT(hz_receiver_len(&receiver, &len) == HZ_DONE && len == 0);
+    EXPECT(hz_receiver_free(&receiver) == HZ_DONE);
+}
+
 int main(int count, char **words) {
     uint64_t many = count > 1 ? strtoull(words[1], NULL, 10) : 3200;
     closing_wakes();
+    ends_count();
     shape(1, 1, many, false);
     shape(1, 2, many, false);
     shape(4, 4, many, false);

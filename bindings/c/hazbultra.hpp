@@ -39,7 +39,8 @@ struct answer {
 /* ---- The channel. */
 
 /* An end of a channel: a sender or a receiver. */
-template <class End, uint32_t (*make)(End *, End *), uint32_t (*free_end)(End *)> class channel_end {
+template <class End, uint32_t (*make)(End *, End *), uint32_t (*count)(End *, uint64_t *), uint32_t (*free_end)(End *)>
+class channel_end {
   public:
     channel_end() = default;
     channel_end(channel_end &&other) noexcept : end(std::exchange(other.end, End{})) {}
@@ -52,6 +53,12 @@ template <class End, uint32_t (*make)(End *, End *), uint32_t (*free_end)(End *)
     ~channel_end() { free_end(&end); }
     /* Whether it leads to a channel. */
     explicit operator bool() const noexcept { return end.end.full; }
+    /* How many values wait. It throws HZ_BAD_HANDLE. */
+    uint64_t len() {
+        uint64_t found = 0;
+        expect_done(count(&end, &found));
+        return found;
+    }
 
   protected:
     void clone_into(channel_end &other) { expect_done(make(&end, &other.end)); }
@@ -59,7 +66,7 @@ template <class End, uint32_t (*make)(End *, End *), uint32_t (*free_end)(End *)
 };
 
 /* It sends. The channel is closed once its last sender is destroyed. */
-class sender : public channel_end<hz_sender, hz_sender_clone, hz_sender_free> {
+class sender : public channel_end<hz_sender, hz_sender_clone, hz_sender_len, hz_sender_free> {
   public:
     /* Another sender of the same channel. It throws HZ_NO_MEMORY or HZ_CROWDED. */
     sender clone() {
@@ -79,7 +86,7 @@ class sender : public channel_end<hz_sender, hz_sender_clone, hz_sender_free> {
 };
 
 /* It receives. */
-class receiver : public channel_end<hz_receiver, hz_receiver_clone, hz_receiver_free> {
+class receiver : public channel_end<hz_receiver, hz_receiver_clone, hz_receiver_len, hz_receiver_free> {
   public:
     /* Another receiver of the same channel. It throws HZ_NO_MEMORY or HZ_CROWDED. */
     receiver clone() {

@@ -100,6 +100,13 @@ static inline uint32_t hz_recv(hz_receiver *receiver, uint64_t *value);
 HZ_CHECKED HZ_NONNULL
 static inline uint32_t hz_try_recv(hz_receiver *receiver, uint64_t *value);
 
+/* How many values wait in the channel. HZ_DONE: *len is written. HZ_BAD_HANDLE. The call waits while others receive, or while one
+ * of them adds memory. */
+HZ_CHECKED HZ_NONNULL
+uint32_t hz_sender_len(hz_sender *sender, uint64_t *len);
+HZ_CHECKED HZ_NONNULL
+uint32_t hz_receiver_len(hz_receiver *receiver, uint64_t *len);
+
 /* Closes the channel, for ever: nothing can be sent any more, and all receivers that sleep are woken. What waits can still be
  * received. HZ_DONE. HZ_BAD_HANDLE. */
 HZ_NONNULL
@@ -154,6 +161,12 @@ uint32_t hz_channel_receive(hz_end *receiver, uint64_t *value, hz_wake *wake);
  * receiver sleeps or owes something. */
 HZ_CHECKED HZ_NONNULL
 uint32_t hz_channel_try_receive(hz_end *receiver, uint64_t *value);
+
+/* HZ_DONE: *len is how many values wait: in all parts of the channel, the number sent, less the number received. HZ_AGAIN: it is not
+ * known now. Another end has the lock, others receive, or the end goes, or is a receiver that sleeps or owes something.
+ * HZ_BAD_HANDLE: the handle leads to nothing. The end stays as it was, and len is written at HZ_DONE only. */
+HZ_CHECKED HZ_NONNULL
+uint32_t hz_channel_len(hz_end *end, uint64_t *len);
 
 /* Pays what the end owes, a step at a time. A receiver that sleeps stops waiting. HZ_DONE: it owes nothing, and does not sleep.
  * HZ_AGAIN: it still owes something, and does not sleep. HZ_BAD_HANDLE: the handle leads to nothing, and stays as it was. */

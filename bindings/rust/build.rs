@@ -1,12 +1,12 @@
-//! Links the archive of proved code: that of this package for the target, or the one in the folder that the variable
+//! Links the archives of proved code: those of this package for the target, or those in the folder that the variable
 //! `HAZBULTRA_LIB` names.
 use std::error::Error;
 use std::path::PathBuf;
 use std::process::ExitCode;
 use std::{env, fs};
 
-const ARCHIVE: &str = "libhazbultra.a";
-/// The targets of this package's archives. Each archive stands in a folder of `prebuilt` with the name of its target.
+const ARCHIVES: [&str; 2] = ["hazbultra", "hazbultra_channel"];
+/// The targets of this package's archives. They stand in folders of `prebuilt` with the names of their targets.
 const TARGETS: [&str; 2] = ["x86_64-unknown-linux-gnu", "aarch64-unknown-linux-gnu"];
 
 fn main() -> ExitCode {
@@ -19,23 +19,26 @@ fn main() -> ExitCode {
     }
 }
 
-/// Copies the archive to cargo's folder for this build, and links that copy. If a package was moved or copied with its
+/// Copies the archives to cargo's folder for this build, and links the copies. If a package was moved or copied with its
 /// `target`, cargo names its new folder. The linker gets no other path. So no package links the archive of another.
 fn link() -> Result<(), Box<dyn Error>> {
     let of_package = PathBuf::from("prebuilt").join(fitting()?);
     println!("cargo::rerun-if-env-changed=HAZBULTRA_LIB");
     // Cargo runs this program in the package's folder. So a relative path begins there.
     let folder = env::var_os("HAZBULTRA_LIB").map_or(of_package, PathBuf::from);
-    let archive = folder.join(ARCHIVE);
-    println!("cargo::rerun-if-changed={}", archive.display());
-    let bytes = fs::read(&archive).map_err(|why| {
-        let archive = archive.display();
-        format!("{archive}: {why}. HAZBULTRA_LIB may name another folder of {ARCHIVE}")
-    })?;
     let out = PathBuf::from(env::var_os("OUT_DIR").ok_or("cargo names no OUT_DIR")?);
-    fs::write(out.join(ARCHIVE), bytes)?;
     println!("cargo::rustc-link-search=native={}", out.display());
-    println!("cargo::rustc-link-lib=static=hazbultra");
+    for name in ARCHIVES {
+        let file = format!("lib{name}.a");
+        let archive = folder.join(&file);
+        println!("cargo::rerun-if-changed={}", archive.display());
+        let bytes = fs::read(&archive).map_err(|why| {
+            let archive = archive.display();
+            format!("{archive}: {why}. HAZBULTRA_LIB may name another folder of {file}")
+        })?;
+        fs::write(out.join(&file), bytes)?;
+        println!("cargo::rustc-link-lib=static={name}");
+    }
     Ok(())
 }
 

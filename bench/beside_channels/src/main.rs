@@ -1,7 +1,7 @@
 //! One run of values through this repository's channel or through another. `bench/channels.py` runs it. It prints how many
 //! nanoseconds the work took, without the making of the channel, and within how many 99 of 100 values arrived, or 0.
 //!
-//! Its arguments are CHANNEL u64|box threads|relay|turns PRODUCERS CONSUMERS VALUES.
+//! Its arguments are CHANNEL u64|quad|box threads|relay|turns PRODUCERS CONSUMERS VALUES.
 mod proved;
 
 use hazbultra::channel;
@@ -158,6 +158,8 @@ fn through<T: Word + Send>(
         "hazbultra" => work(channel::unbounded(), way, plan, form),
         "proved" => work(proved::channel(), way, plan, form),
         "crossbeam" => work(crossbeam_channel::unbounded(), way, plan, form),
+        "hazbultra-100" => work(channel::bounded(100), way, plan, form),
+        "crossbeam-100" => work(crossbeam_channel::bounded(100), way, plan, form),
         "flume" => work(flume::unbounded(), way, plan, form),
         "async" => work(async_channel::unbounded(), way, plan, form),
         "std" => {
@@ -189,6 +191,15 @@ fn run(words: &[String]) -> Option<(u64, Vec<u64>)> {
             Form {
                 pack: |it| it,
                 unpack: |it| it,
+            },
+        ),
+        "quad" => through(
+            what,
+            way,
+            plan,
+            Form {
+                pack: |it| [it; 4],
+                unpack: |it| it[0],
             },
         ),
         "box" => through(

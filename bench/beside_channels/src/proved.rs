@@ -62,6 +62,16 @@ impl Word for Box<u64> {
     }
 }
 
+impl Word for [u64; 4] {
+    fn into_word(self) -> u64 {
+        Box::into_raw(Box::new(self)) as u64
+    }
+
+    unsafe fn of_word(word: u64) -> [u64; 4] {
+        unsafe { *Box::from_raw(word as *mut [u64; 4]) }
+    }
+}
+
 /// An end of either side. A call has it alone, since it is not `Sync`.
 pub struct Proved<T, const SENDS: bool>(UnsafeCell<End>, PhantomData<T>);
 

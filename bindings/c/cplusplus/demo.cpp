@@ -49,6 +49,7 @@ static void channels() {
     std::thread workers[2] = {std::thread([&sums, it = worker.clone()]() mutable { sums[0] = received_by(std::move(it)); }),
                               std::thread([&sums, it = std::move(worker)]() mutable { sums[1] = received_by(std::move(it)); })};
     EXPECT(!worker && worker.recv().code == HZ_BAD_HANDLE && refused([&] { worker.clone(); }).code == HZ_BAD_HANDLE);
+    EXPECT(jobs.len() == 0 && refused([&] { worker.len(); }).code == HZ_BAD_HANDLE);
     sender other = jobs.clone();
     for (uint64_t job = 1; job <= ITEMS; job++)
         EXPECT((job % 2 ? jobs : other).send(job) == HZ_DONE);

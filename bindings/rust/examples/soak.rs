@@ -235,17 +235,20 @@ fn check_passages([mut sends, mut receives]: [Vec<Passage>; 2]) {
 fn round(number: u64, share: u64) -> u64 {
     let bounds = [None, Some(10), None, Some(0), None, Some(1), None];
     let bound = bounds[usize::try_from(number % 7).unwrap_or(0)];
-    // (with very small segments, or little room, the channel is slow)
-    let is_slow = number % 4 < 2 || bound.is_some();
-    let share = if is_slow { share / 50 } else { share };
+    // (with little room, the channel is slow)
+    let share = if bound.is_some() { share / 50 } else { share };
     let mut builder = Builder::new();
-    if let Some(cells) = [1, 3, 64].get(usize::try_from(number % 4).unwrap_or(0)) {
-        builder = builder.cells(*cells);
-    }
     if let Some(bound) = bound {
         builder = builder.bound(bound);
     }
-    let (sender, receiver, audit) = builder.audited();
+    // (without an audit, each end sends or receives for itself)
+    let (sender, receiver, audit) = if number % 2 == 0 {
+        let (sender, receiver) = builder.build();
+        (sender, receiver, None)
+    } else {
+        let (sender, receiver, audit) = builder.audited();
+        (sender, receiver, Some(audit))
+    };
     let tally = Mutex::default();
     thread::scope(|scope| {
         let start = |thread: u64| {
@@ -266,12 +269,13 @@ fn round(number: u64, share: u64) -> u64 {
     });
     let mut tally = tally.into_inner().expect("no thread failed");
     check_passages(mem::take(&mut tally.passages));
-    let totals = audit.totals();
-    assert_eq!((totals.sent, totals.taken), (tally.sent, tally.taken));
-    assert_eq!(
-        (totals.given_back, totals.left, totals.unknown),
-        (tally.given_back, 0, 0)
-    );
+    if let Some(totals) = audit.map(|it| it.totals()) {
+        assert_eq!((totals.sent, totals.taken), (tally.sent, tally.taken));
+        assert_eq!(
+            (totals.given_back, totals.left, totals.unknown),
+            (tally.given_back, 0, 0)
+        );
+    }
     THREADS * share
 }
 

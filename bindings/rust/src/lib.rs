@@ -1,14 +1,14 @@
-//! Message passing between threads, on a mailbox with a proof that no item is taken twice.
+//! Message passing between threads, with a proof that nothing is taken twice.
 //!
-//! [`channel`] is a channel over such mailboxes: any number of values may be sent, and receivers sleep until one comes.
+//! In a [`channel`], any number of values may be sent, in one order, and receivers sleep until one comes.
 //!
 //! In a [`Mailbox`] each producer puts values into a lane of its own, all consumers compete for each value, and **at most one
 //! consumer takes it**. A report at the end says who took what, and gives back what is left. No put and no poll takes a
 //! lock or waits, except in the allocator, for the box of a large value.
 //!
-//! The mailbox is written in Rattle, which is Rust with contracts, and proved for every run: every order of the threads'
-//! steps, and all random words. This crate links an archive built from it, and needs nothing else. It is for Linux, on
-//! x86-64 of level x86-64-v2 or on little-endian aarch64.
+//! The mailbox and the core of the channel are written in Rattle, which is Rust with contracts. They are proved for every
+//! run: every order of the threads' steps, and all random words. This crate links two archives built from them, and needs
+//! nothing else. It is for Linux, on x86-64 of level x86-64-v2 or on little-endian aarch64.
 //!
 //! ```
 //! use hazbultra::Mailbox;
@@ -45,8 +45,8 @@
 //!
 //! # What is proved, and what the types add
 //!
-//! The archive is proved on condition that its caller keeps some rules. They stand at the head of
-//! `bindings/c/hazbultra.h`. This crate keeps them, unless other `unsafe` code forks or handles signals. A producer or
+//! The archives are proved on condition that their caller keeps some rules. They stand at the heads of
+//! `bindings/c/hazbultra.h` and `hazbultra_channel.h`. This crate keeps them, unless other `unsafe` code forks or handles signals. A producer or
 //! consumer holds its own mailbox, is used by one thread at a time, is not `Clone`, and cannot be used after its drop. All
 //! `unsafe` code is in one module, and each block says why it is sound.
 //!

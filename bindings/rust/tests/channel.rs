@@ -1,8 +1,8 @@
-//! Tests of the channel, which is not proved. Most have small segments, so that values go through many.
+//! Tests of the channel.
 mod run;
 
-use hazbultra::channel::{Builder, Receiver, Sender, bounded, unbounded};
 use hazbultra::channel::{RecvError, RecvTimeoutError, SendError, TryRecvError, TrySendError};
+use hazbultra::channel::{Sender, bounded, unbounded};
 use run::{Flag, poll, run};
 use std::collections::BTreeMap;
 use std::sync::atomic::{AtomicUsize, Ordering::SeqCst};
@@ -14,10 +14,6 @@ use std::time::{Duration, Instant};
 const SHORT: Duration = Duration::from_millis(20);
 /// A test that waits for something fails after this time.
 const LONG: Duration = Duration::from_secs(10);
-
-fn small<T>() -> (Sender<T>, Receiver<T>) {
-    Builder::new().cells(3).build()
-}
 
 /// A value that counts its drops.
 #[derive(Clone)]
@@ -31,33 +27,32 @@ impl Drop for Counted {
 
 #[test]
 fn values_of_a_sender_keep_their_order() {
-    let (sender, receiver) = small();
-    (0..100).for_each(|it| sender.send(it).unwrap());
-    assert_eq!(receiver.len(), 100);
+    let (sender, receiver) = unbounded();
+    (0..5000).for_each(|it| sender.send(it).unwrap());
+    assert_eq!(receiver.len(), 5000);
     drop(sender);
-    assert!(receiver.into_iter().eq(0..100));
+    assert!(receiver.into_iter().eq(0..5000));
 }
 
 #[test]
 fn the_values_of_many_senders_have_one_order() {
-    let (sender, receiver) = small();
+    let (sender, receiver) = unbounded();
     let senders = [(); 20].map(|()| sender.clone());
-    (0..500).for_each(|it| senders[it * 7 % 20].send(it).unwrap());
-    assert!(receiver.try_iter().eq(0..500));
+    (0..5000).for_each(|it| senders[it * 7 % 20].send(it).unwrap());
+    assert!(receiver.try_iter().eq(0..5000));
 }
 
 #[test]
 fn a_clone_of_a_receiver_begins_where_values_are_left() {
-    let (sender, receiver) = small();
-    (0..10).for_each(|it| sender.send(it).unwrap());
-    assert_eq!(receiver.try_iter().take(7).count(), 7);
-    assert!(receiver.clone().try_iter().eq(7..10));
+    let (sender, receiver) = unbounded();
+    (0..3000).for_each(|it| sender.send(it).unwrap());
+    assert_eq!(receiver.try_iter().take(2000).count(), 2000);
+    assert!(receiver.clone().try_iter().eq(2000..3000));
 }
 
 #[test]
 fn each_value_goes_to_one_of_many_ends() {
-    // (more receivers than there are seats, so some share them)
-    let (sender, receiver) = Builder::new().cells(16).build();
+    let (sender, receiver) = unbounded();
     let takers: Vec<_> = (0..70)
         .map(|_| receiver.clone())
         .map(|it| thread::spawn(move || it.iter().collect::<Vec<(usize, usize)>>()))
@@ -91,7 +86,7 @@ fn each_value_goes_to_one_of_many_ends() {
 /// A receiver that looks after a send finds a value, also if other threads send and receive meanwhile.
 #[test]
 fn a_receiver_finds_what_was_sent_before() {
-    let (sender, receiver) = Builder::new().cells(64).build();
+    let (sender, receiver) = unbounded();
     let threads: [_; 4] =
         std::array::from_fn(|_| ([(); 4].map(|()| sender.clone()), receiver.clone()));
     thread::scope(|scope| {
@@ -123,7 +118,7 @@ fn a_bound_holds() {
 
 #[test]
 fn an_end_ends_the_other_side() {
-    let (sender, receiver) = small::<u8>();
+    let (sender, receiver) = unbounded::<u8>();
     assert_eq!(receiver.try_recv(), Err(TryRecvError::Empty));
     assert_eq!(receiver.recv_timeout(SHORT), Err(RecvTimeoutError::Timeout));
     assert_eq!(
@@ -136,7 +131,7 @@ fn an_end_ends_the_other_side() {
     assert_eq!(receiver.recv(), Err(RecvError));
     assert_eq!(receiver.try_recv(), Err(TryRecvError::Disconnected));
 
-    let (sender, receiver) = small();
+    let (sender, receiver) = unbounded();
     drop(receiver.clone());
     drop(receiver);
     assert_eq!(sender.send(7), Err(SendError(7)));
@@ -164,7 +159,7 @@ fn the_end_wakes_sleepers() {
 #[test]
 fn what_is_left_is_dropped_once_with_the_last_receiver() {
     let drops = Arc::new(AtomicUsize::new(0));
-    let (sender, receiver) = small();
+    let (sender, receiver) = unbounded();
     (0..20).for_each(|_| sender.send(Counted(Arc::clone(&drops))).unwrap());
     drop((receiver.recv().unwrap(), receiver.clone()));
     assert_eq!(drops.load(SeqCst), 1);
@@ -173,7 +168,7 @@ fn what_is_left_is_dropped_once_with_the_last_receiver() {
     drop(sender);
     assert_eq!(drops.load(SeqCst), 20);
 
-    let (sender, first) = Builder::new().cells(32).build();
+    let (sender, first) = unbounded();
     let second = first.clone();
     (0..5).for_each(|_| sender.send(Counted(Arc::clone(&drops))).unwrap());
     drop((second.recv(), first.recv()));
@@ -188,7 +183,7 @@ fn values_may_hold_ends_of_their_own_channel() {
         #[allow(dead_code)] Counted,
     );
     let drops = Arc::new(AtomicUsize::new(0));
-    let (sender, receiver) = small();
+    let (sender, receiver) = unbounded();
     for _ in 0..10 {
         let knot = Knot(sender.clone(), Counted(Arc::clone(&drops)));
         assert!(sender.send(knot).is_ok());
@@ -208,7 +203,7 @@ fn ten_million_values_that_wait_are_dropped() {
 
 #[test]
 fn tasks_send_and_receive() {
-    let (sender, receiver) = Builder::new().bound(2).cells(3).build();
+    let (sender, receiver) = bounded(2);
     let sending = thread::spawn(move || {
         (0..1000).for_each(|it| run(sender.send_async(it)).unwrap());
     });
@@ -222,7 +217,7 @@ fn tasks_send_and_receive() {
 
 #[test]
 fn a_future_that_is_dropped_passes_its_wake_up_on() {
-    let (sender, receiver) = small();
+    let (sender, receiver) = unbounded();
     let other = receiver.clone();
     let mut first = receiver.recv_async();
     assert!(poll(&mut first, &Arc::<Flag>::default()).is_pending());
@@ -235,7 +230,7 @@ fn a_future_that_is_dropped_passes_its_wake_up_on() {
 
 #[test]
 fn a_future_that_is_dropped_leaves_the_list() {
-    let (sender, receiver) = small();
+    let (sender, receiver) = unbounded();
     let mut first = receiver.recv_async();
     assert!(poll(&mut first, &Arc::<Flag>::default()).is_pending());
     drop(first);
@@ -253,7 +248,7 @@ fn a_waker_that_panics_is_passed_over() {
             std::panic::resume_unwind(Box::new("a waker"));
         }
     }
-    let (sender, receiver) = small();
+    let (sender, receiver) = unbounded();
     let mut first = receiver.recv_async();
     assert!(poll(&mut first, &Arc::new(Panicking)).is_pending());
     let other = receiver.clone();
@@ -277,7 +272,7 @@ fn a_send_that_is_dropped_sends_nothing() {
 /// Sends a few values at a time, while the channel never ends: so nothing else wakes a receiver whose wake-up is lost.
 #[test]
 fn no_round_sleeps_for_ever() {
-    let (sender, receiver) = Builder::new().cells(3).build();
+    let (sender, receiver) = unbounded();
     let (back, rounds) = unbounded();
     for _ in 0..3 {
         let (receiver, back) = (receiver.clone(), back.clone());
@@ -298,7 +293,7 @@ fn no_round_sleeps_for_ever() {
 
 #[test]
 fn no_sender_that_waits_for_room_sleeps_for_ever() {
-    let (sender, receiver) = Builder::new().bound(1).cells(3).build();
+    let (sender, receiver) = bounded(1);
     for number in 0..4_u32 {
         let sender = sender.clone();
         thread::spawn(move || while sender.send(number).is_ok() {});
@@ -313,7 +308,7 @@ fn no_sender_that_waits_for_room_sleeps_for_ever() {
 
 #[test]
 fn one_sender_is_shared_by_threads() {
-    let (sender, receiver) = small();
+    let (sender, receiver) = unbounded();
     let barrier = Barrier::new(4);
     let taken: usize = thread::scope(|scope| {
         for _ in 0..4 {
@@ -331,7 +326,7 @@ fn one_sender_is_shared_by_threads() {
 
 #[test]
 fn ends_of_one_channel() {
-    let ((sender, receiver), (other, others)) = (small::<u8>(), small());
+    let ((sender, receiver), (other, others)) = (unbounded::<u8>(), unbounded());
     assert!(sender.same_channel(&sender.clone()) && receiver.same_channel(&receiver.clone()));
     assert!(!sender.same_channel(&other) && !receiver.same_channel(&others));
 }

@@ -1,7 +1,7 @@
 //! Tests of the channel's calls for its end, for ends that do not count, and for tasks.
 mod run;
 
-use hazbultra::channel::{Builder, Receiver, Sender, bounded, unbounded};
+use hazbultra::channel::{Builder, bounded, unbounded};
 use hazbultra::channel::{RecvError, RecvTimeoutError, SendError, TryRecvError, TrySendError};
 use run::{Flag, poll, run};
 use std::future::Future;
@@ -13,13 +13,9 @@ use std::time::{Duration, Instant};
 
 const SHORT: Duration = Duration::from_millis(20);
 
-fn small<T>() -> (Sender<T>, Receiver<T>) {
-    Builder::new().cells(3).build()
-}
-
 #[test]
 fn after_a_close_nothing_is_sent_and_all_that_is_left_is_received() {
-    let (sender, receiver) = small();
+    let (sender, receiver) = unbounded();
     (0..4).for_each(|it| sender.send(it).unwrap());
     assert!(!receiver.is_closed());
     assert!(sender.close() && !sender.close() && !receiver.close());
@@ -77,7 +73,7 @@ fn a_job_comes_back_after_a_close() {
 #[test]
 fn a_close_loses_no_value() {
     for _ in 0..300 {
-        let (sender, receiver) = small();
+        let (sender, receiver) = unbounded();
         let senders = [0, 1].map(|_| sender.clone());
         let senders =
             senders.map(|it| thread::spawn(move || (0..usize::MAX).find(|n| it.send(*n).is_err())));
@@ -91,7 +87,7 @@ fn a_close_loses_no_value() {
 
 #[test]
 fn ends_are_counted() {
-    let (sender, receiver) = small::<u8>();
+    let (sender, receiver) = unbounded::<u8>();
     assert_eq!((receiver.sender_count(), receiver.receiver_count()), (1, 1));
     let (other, weak) = (sender.clone(), receiver.downgrade());
     let _more = weak.upgrade();
@@ -102,7 +98,7 @@ fn ends_are_counted() {
 
 #[test]
 fn a_weak_end_keeps_nothing_open() {
-    let (sender, receiver) = small();
+    let (sender, receiver) = unbounded();
     let (weak, weaker) = (sender.downgrade(), receiver.downgrade());
     let again = weak.clone().upgrade().unwrap();
     assert!(again.same_channel(&sender));
@@ -112,7 +108,7 @@ fn a_weak_end_keeps_nothing_open() {
     let value = Arc::clone(&receiver.recv().unwrap());
     assert_eq!(receiver.recv(), Err(RecvError));
 
-    let (sender, others) = small();
+    let (sender, others) = unbounded();
     let weakest = others.downgrade();
     sender.send(Arc::clone(&value)).unwrap();
     drop(others);
@@ -122,7 +118,7 @@ fn a_weak_end_keeps_nothing_open() {
 
 #[test]
 fn a_drain_takes_what_waits_now() {
-    let (sender, receiver) = small();
+    let (sender, receiver) = unbounded();
     (0..5).for_each(|it| sender.send(it).unwrap());
     let mut drain = receiver.drain();
     assert_eq!(drain.size_hint(), (0, Some(5)));
@@ -161,7 +157,7 @@ fn futures_may_own_their_ends() {
 
 #[test]
 fn a_future_starts_again() {
-    let (sender, receiver) = small();
+    let (sender, receiver) = unbounded();
     let mut future = receiver.into_recv_async();
     for value in 0..5 {
         future.restart();
@@ -176,7 +172,7 @@ fn a_future_starts_again() {
 
 #[test]
 fn a_worker_waits_for_a_job_as_long_as_it_wants() {
-    let (sender, receiver) = small();
+    let (sender, receiver) = unbounded();
     assert_eq!(
         receiver.recv_job_timeout(SHORT).unwrap_err(),
         RecvTimeoutError::Timeout
@@ -206,7 +202,7 @@ fn a_worker_waits_for_a_job_as_long_as_it_wants() {
 fn iterators_of_all_types_are_shown_and_fused() {
     struct Plain;
     fn is_fused(_: &impl FusedIterator) {}
-    let (sender, receiver) = small();
+    let (sender, receiver) = unbounded();
     sender.send(Plain).unwrap();
     is_fused(&receiver.iter());
     is_fused(&receiver.drain());
@@ -233,7 +229,7 @@ fn a_panic_says_where_the_call_stands() {
         let at = why.location().map(|it| it.file().to_owned());
         lines.send(at).unwrap_or(());
     }));
-    let caught = std::panic::catch_unwind(|| Builder::new().cells(0));
+    let caught = std::panic::catch_unwind(|| Builder::new().account(0));
     std::panic::set_hook(old);
     assert!(caught.is_err());
     assert_eq!(seen.recv().unwrap().as_deref(), Some(file!()));

@@ -169,8 +169,8 @@ impl Drop for Sharp<'_> {
 fn all_that_is_left_is_dropped_though_each_drop_panics() {
     for has_audit in [false, true] {
         let drops = AtomicUsize::new(0);
-        let (sender, receiver, audit) = Builder::new().cells(3).audited();
-        let plain = Builder::new().cells(3).build();
+        let (sender, receiver, audit) = Builder::new().account(3).audited();
+        let plain = unbounded();
         let (sender, receiver) = if has_audit { (sender, receiver) } else { plain };
         drop(audit);
         (0..8).for_each(|_| assert!(sender.send(Sharp(&drops)).is_ok()));
@@ -216,41 +216,18 @@ fn run_with_little_memory(name: &str) {
     assert!(said.contains("1 passed"), "{said}");
 }
 
-/// Takes memory until less than 4 MiB is free. No page of it is touched.
+/// Takes memory until no block of 8 KiB is free. No page of it is touched.
 fn take_memory() -> Vec<Vec<u8>> {
-    let block = || {
+    let block = |size| {
         let mut block = Vec::new();
-        block.try_reserve_exact(4 << 20).ok().map(|()| block)
+        block.try_reserve_exact(size).ok().map(|()| block)
     };
-    let mut all = Vec::with_capacity(1000);
-    all.extend(std::iter::from_fn(block).take(1000));
-    assert!(all.len() < 1000, "this process has a limit");
+    let mut all = Vec::with_capacity(1 << 20);
+    for size in [4 << 20, 8 << 10] {
+        all.extend(std::iter::from_fn(|| block(size)).take(1 << 19));
+    }
+    assert!(all.len() < 1 << 19, "this process has a limit");
     all
-}
-
-/// So many that a consumer, or a segment, wants more than 4 MiB.
-const MANY: usize = 1 << 20;
-
-#[test]
-fn a_future_without_memory_passes_its_wake_up_on() {
-    run_with_little_memory("without_memory_a_future_passes_its_wake_up_on");
-}
-
-#[test]
-#[ignore = "the test above runs it with little memory"]
-fn without_memory_a_future_passes_its_wake_up_on() {
-    let (sender, receiver) = Builder::new().cells(MANY).build();
-    let other = receiver.clone();
-    let (mut first, mut second) = (receiver.recv_async(), other.recv_async());
-    let flags = [flag(), flag()];
-    assert!(poll(&mut first, &flags[0]).is_pending());
-    assert!(poll(&mut second, &flags[1]).is_pending());
-    sender.send(1).unwrap();
-    let memory = take_memory();
-    assert!(flags[0].take() && poll(&mut first, &flags[0]).is_pending());
-    drop(first);
-    drop(memory);
-    assert!(flags[1].take() && poll(&mut second, &flags[1]).is_ready());
 }
 
 #[test]
@@ -262,8 +239,9 @@ fn a_job_without_memory_ends() {
 #[ignore = "the test above runs it with little memory"]
 fn without_memory_a_job_ends() {
     static DROPS: AtomicUsize = AtomicUsize::new(0);
-    let (sender, receiver) = Builder::new().cells(MANY).build();
-    (0..MANY).for_each(|_| assert!(sender.send(Some(Sharp(&DROPS))).is_ok()));
+    let (sender, receiver) = unbounded();
+    // (so many fill the first segment, and the next one takes 24 KiB)
+    (0..64).for_each(|_| assert!(sender.send(Some(Sharp(&DROPS))).is_ok()));
     let job = receiver.recv_job().unwrap();
     receiver.try_iter().for_each(std::mem::forget);
     drop(sender);

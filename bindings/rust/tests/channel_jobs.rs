@@ -1,6 +1,6 @@
-//! Tests of the channel's jobs and of its audit. Most have small segments, so that values go through many.
+//! Tests of the channel's jobs and of its audit.
 use hazbultra::channel::{
-    Builder, Receiver, RecvError, Sender, TryRecvError, TrySendError, bounded,
+    Builder, Receiver, RecvError, TryRecvError, TrySendError, bounded, unbounded,
 };
 use std::collections::BTreeMap;
 use std::thread;
@@ -8,13 +8,9 @@ use std::time::Duration;
 
 const SHORT: Duration = Duration::from_millis(20);
 
-fn small<T>() -> (Sender<T>, Receiver<T>) {
-    Builder::new().cells(3).build()
-}
-
 #[test]
 fn a_job_comes_back_unless_it_is_done() {
-    let (sender, receiver) = small();
+    let (sender, receiver) = unbounded();
     sender.send(1).unwrap();
     sender.send(2).unwrap();
     assert_eq!(receiver.recv_job().unwrap().done(), 1);
@@ -38,7 +34,7 @@ fn a_job_comes_back_unless_it_is_done() {
 
 #[test]
 fn receivers_wait_while_a_job_is_open() {
-    let (sender, receiver) = small();
+    let (sender, receiver) = unbounded();
     let other = receiver.clone();
     sender.send(1).unwrap();
     drop(sender);
@@ -52,7 +48,7 @@ fn receivers_wait_while_a_job_is_open() {
 
 #[test]
 fn the_last_job_ends_the_channel() {
-    let (sender, receiver) = small();
+    let (sender, receiver) = unbounded();
     sender.send(1).unwrap();
     drop(sender);
     let work = |receiver: Receiver<u8>| {
@@ -80,15 +76,15 @@ fn a_bound_gives_way_to_a_job_that_comes_back() {
 }
 
 #[test]
-fn an_account_of_each_segment_while_it_runs() {
-    let (sender, receiver, audit) = Builder::new().cells(3).audited();
+fn accounts_while_it_runs() {
+    let (sender, receiver, audit) = Builder::new().account(3).audited();
     let other = receiver.clone();
     (0..7).for_each(|it| sender.send(it).unwrap());
     assert_eq!((receiver.recv(), other.recv()), (Ok(0), Ok(1)));
     assert_eq!((receiver.recv(), receiver.recv()), (Ok(2), Ok(3)));
     let accounts = audit.accounts();
     let [account] = &accounts[..] else {
-        panic!("one segment is over: {accounts:?}")
+        panic!("three values were taken: {accounts:?}")
     };
     let takers: Vec<_> = account.fates.iter().map(|it| it.receiver).collect();
     assert_eq!(
@@ -113,29 +109,40 @@ fn an_account_of_each_segment_while_it_runs() {
     let totals = audit.totals();
     assert_eq!(totals.sent, BTreeMap::from([(sender.number(), 7)]));
     assert_eq!(totals.taken, BTreeMap::from([(0, 3), (1, 1)]));
-    assert_eq!((totals.left, totals.given_back, totals.unknown), (3, 0, 0));
+    assert_eq!((totals.left, totals.given_back), (3, 0));
 }
 
-/// A segment gets its account only after no end uses it. So the accounts show that idle ends use none.
+/// The bytes of memory that this process uses.
+fn resident() -> u64 {
+    let pages = std::fs::read_to_string("/proc/self/statm").unwrap();
+    pages.split(' ').nth(1).unwrap().parse::<u64>().unwrap() * 4096
+}
+
 #[test]
-fn an_idle_end_pins_no_segment() {
-    let (sender, receiver, audit) = Builder::new().cells(3).audited();
+fn an_idle_end_keeps_no_memory_for_long() {
+    let (sender, receiver) = unbounded();
     let (idle_sender, idle) = (sender.clone(), receiver.clone());
-    for sender in [&idle_sender, &sender] {
-        sender.send(0).unwrap();
+    // (so many give a sender a place of its own)
+    for it in 0..20_u64 {
+        idle_sender.send(it).unwrap();
         idle.recv().unwrap();
     }
-    (0..300).for_each(|it| {
+    let looking = receiver.clone();
+    assert_eq!(looking.try_recv(), Err(TryRecvError::Empty));
+    let before = resident();
+    (0..2_000_000).for_each(|it| {
         sender.send(it).unwrap();
         receiver.recv().unwrap();
     });
-    let sent: u64 = audit.totals().sent.values().sum();
-    assert!(sent > 290, "accounts of {sent} values alone");
+    // (the values that went through took 32 MB)
+    let more = resident().saturating_sub(before);
+    assert!(more < 16_000_000, "{more} bytes more");
+    drop((idle_sender, idle, looking));
 }
 
 #[test]
 fn the_audit_agrees_with_the_ends() {
-    let (sender, receiver, audit) = Builder::new().cells(7).audited();
+    let (sender, receiver, audit) = Builder::new().account(7).audited();
     let takers: Vec<_> = (0..4)
         .map(|_| receiver.clone())
         .map(|it| thread::spawn(move || (it.number(), it.iter().take(300).count() as u64)))

@@ -1,5 +1,5 @@
 #!/usr/bin/env python3
-"""Runs the tests of crossbeam-channel 0.5 over this crate's channel, in four sizes of segments.
+"""Runs the tests of crossbeam-channel 0.5 over this crate's channel.
 
 They come from Debian's package librust-crossbeam-channel-dev. A shim over this crate takes the place of crossbeam-channel, and its
 build counts as a test. A test is left out if it needs what this channel does not offer. It is printed with the reason. The last line
@@ -14,7 +14,6 @@ import tempfile
 
 CRATE = os.path.dirname(os.path.dirname(os.path.abspath(__file__)))
 REGISTRY = "/usr/share/cargo/registry"
-CELLS = ("1", "3", "64", "")
 FILES = "array list zero iter mpsc golang same_channel thread_locals".split()
 # What this channel does not offer, and how a test that needs it is found.
 NEEDS = {
@@ -26,14 +25,6 @@ OTHERS = {"array::panic_on_drop": "values that leak after a panic: here each is 
 
 SHIM = """
 pub use hazbultra::channel::*;
-fn builder() -> Builder {
-    match std::env::var("CELLS") {
-        Ok(cells) if !cells.is_empty() => Builder::new().cells(cells.parse().unwrap()),
-        _ => Builder::new(),
-    }
-}
-pub fn unbounded<T>() -> (Sender<T>, Receiver<T>) { builder().build() }
-pub fn bounded<T>(bound: usize) -> (Sender<T>, Receiver<T>) { builder().bound(bound).build() }
 // (the tests of golang.rs make these two with each channel, and those that are kept do not use them)
 pub fn never<T>() -> Receiver<T> { unbounded().1 }
 pub fn tick(_: std::time::Duration) -> Receiver<std::time::Instant> { unreachable!() }
@@ -103,7 +94,6 @@ def write(path, text):
 def main():
     source = glob.glob(f"{REGISTRY}/crossbeam-channel-0.5.*")
     utils = glob.glob(f"{REGISTRY}/crossbeam-utils-0.8.*")
-    failed = 0
     with tempfile.TemporaryDirectory() as room:
         write(f"{room}/shim/Cargo.toml", manifest("crossbeam-channel", ("hazbultra", CRATE)))
         write(f"{room}/shim/src/lib.rs", SHIM)
@@ -126,16 +116,12 @@ def main():
                 print(f"left out: {label}: {reason}")
         # (a test may sleep for ever)
         run = ["timeout", "900", "cargo", "test", "--offline", "--quiet", "--release", "--no-fail-fast", "--tests", *sys.argv[1:]]
-        for cells in CELLS:
-            env = {**os.environ, "CELLS": cells, "RUSTFLAGS": "--cap-lints allow"}
-            done = subprocess.run(run, cwd=f"{room}/tests", env=env, text=True, capture_output=True)
-            counts = re.findall(r"test result: .*? (\d+) passed; (\d+) failed", done.stdout)
-            some, bad = (sum(int(it[at]) for it in counts) for at in (0, 1))
-            bad += done.returncode != 0 and not bad
-            print(f"segments of {cells or 'the default size'}: {some} passed, {bad} failed")
-            if bad:
-                print(done.stdout, done.stderr)
-            passed, failed = passed + some, failed + bad
+        done = subprocess.run(run, cwd=f"{room}/tests", env={**os.environ, "RUSTFLAGS": "--cap-lints allow"}, text=True, capture_output=True)
+        counts = re.findall(r"test result: .*? (\d+) passed; (\d+) failed", done.stdout)
+        passed, failed = (before + sum(int(it[at]) for it in counts) for at, before in enumerate((passed, 1 - passed)))
+        failed += done.returncode != 0 and not failed
+        if failed:
+            print(done.stdout, done.stderr)
     print(f"{passed} passed, {failed} failed")
     return failed > 0 or not passed
 

@@ -4,7 +4,7 @@
 mod histories;
 mod run;
 
-use hazbultra::channel::{Builder, Receiver, Sender};
+use hazbultra::channel::{Receiver, Sender, bounded, unbounded};
 use hazbultra::channel::{RecvTimeoutError, SendTimeoutError, TryRecvError, TrySendError};
 use histories::model::{Fault, Model};
 use histories::search::{is_of_a_queue, judge, told};
@@ -19,7 +19,8 @@ const SHORT: Duration = Duration::from_micros(20);
 
 /// The channel of this crate. The values are boxes, so that one taken twice is freed twice.
 struct Real {
-    cells: Option<usize>,
+    /// So many values went through before. The first 64 are in one segment.
+    before: usize,
 }
 
 impl Channel for Real {
@@ -27,10 +28,12 @@ impl Channel for Real {
     type Receiver = Receiver<Box<u8>>;
 
     fn make(&self, bound: Option<usize>) -> (Self::Sender, Self::Receiver) {
-        let builder = self
-            .cells
-            .map_or(Builder::new(), |it| Builder::new().cells(it));
-        bound.map_or(builder, |it| builder.bound(it)).build()
+        let (sender, receiver) = bound.map_or_else(unbounded, bounded);
+        for _ in 0..self.before {
+            sender.send(Box::new(0)).expect("there is room");
+            drop(receiver.recv());
+        }
+        (sender, receiver)
     }
 
     fn send(sender: &Self::Sender, how: How, value: u8) -> Answer {
@@ -125,15 +128,15 @@ fn histories() -> usize {
     count.map_or(1000, |it| it.parse().expect("HISTORIES is a number"))
 }
 
-/// Histories of the channel with this bound, and segments of several sizes. (There are none with bound 0.)
+/// Histories of the channel with this bound, in the first segment and where it ends. (There is none with bound 0.)
 fn search_channel(bound: Option<usize>) {
-    let sizes = [None, Some(1), Some(3)];
-    let sizes = &sizes[..if bound == Some(0) { 1 } else { 3 }];
-    for &cells in sizes {
-        let count = histories() / sizes.len();
-        let (wrong, together) = first_wrong(&Real { cells }, bound, count, 79);
+    let begins = [0, 61, 63];
+    let begins = &begins[..if bound == Some(0) { 1 } else { 3 }];
+    for &before in begins {
+        let count = histories() / begins.len();
+        let (wrong, together) = first_wrong(&Real { before }, bound, count, 79);
         println!(
-            "bound {bound:?}, cells {cells:?}: {count} histories, {together} with calls at once"
+            "bound {bound:?}, after {before}: {count} histories, {together} with calls at once"
         );
         if let Some(wrong) = wrong {
             panic!("{wrong}");

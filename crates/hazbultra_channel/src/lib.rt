@@ -10,6 +10,7 @@
 
 mod calls;
 mod codes;
+mod counting;
 mod create;
 mod going;
 mod handle;

@@ -102,9 +102,9 @@ calls_given size k (Pushed p r ∷ older) s (was, (made, leads)) few low = calls
 calls_given size k (Finished p r ∷ older) s (was, (made, leads)) few low = calls_given size k older was made few low
 
 -- if an offer returns Full, each cell was returned by an earlier offer
-pub calls_handed_out : (size : PoolSize) (p x k : ℕ) (older : List Call) (s : PoolState)
+pub calls_issued : (size : PoolSize) (p x k : ℕ) (older : List Call) (s : PoolState)
     → HasMade size (Offered p x offer.Full ∷ older) s → k < size.cells → WasGivenBy k older
-calls_handed_out size p x k older s (was, (made, leads)) low =
+calls_issued size p x k older s (was, (made, leads)) low =
     let past = calls_full size p x older s (was, (made, leads)) in
     calls_given size k older was made (omega (arith, past, low)) low
 

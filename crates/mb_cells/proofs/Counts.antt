@@ -3,7 +3,7 @@ use Rattle.std.proofs.Common.{Bool, List, [], ap, arith, cond, eq-eqb, false, in
 use Rattle.std.specs.Prelude.{nat_le}
 use Rattle.std.proofs.lemmas.Bool.{cases_Bool, cases_eq, cases_lt, cond_both, lt-leb}
 use Rattle.mb_cells.specs.{AllCellsBelow, Counter, Entry, FetchAdd, Has, History, LaneIsAt, IsLoad, IsPoolLawful, IsReaderPath, Phase, PoolAccess, PoolAct}
-use Rattle.mb_cells.specs.{PoolSize, Process, ProcessFits, Producer, Reader, Steps, Store, WasHandedOut, ends_lane, ends_refused, fetch, fetch_adds_on}
+use Rattle.mb_cells.specs.{PoolSize, Process, ProcessFits, Producer, Reader, Steps, Store, WasIssued, ends_lane, ends_refused, fetch, fetch_adds_on}
 use Rattle.mb_cells.specs.{fills_cell, finds_none, groups, is_same_process, links_cell, part, stored_by, takes_cell, value_in}
 use Rattle.mb_cells.proofs.Counter.{IsCounted, counted-tail, counter_count, counter_step, fetch-below, fetch-found}
 use Rattle.mb_cells.proofs.Histories.{lawful-counted, lawful-tail, place_of, storer_of}
@@ -159,11 +159,11 @@ pub counter_bound : (size : PoolSize) (h : History) → IsPoolLawful size h → 
 counter_bound size h l = omega (arith, counted size h l, refusals-bound size.cells size.lanes h)
 
 -- each number below the counter was found by a fetch-add
-pub handed_out : (h : History) (k : ℕ) → IsCounted h → k < value_in Counter h → WasHandedOut k h
-handed_out [] k c lt = absurd (omega arith)
-handed_out (a ∷ h) k c lt =
-    let deeper : k < value_in Counter h → WasHandedOut k (a ∷ h) =
-    λ low. let x = handed_out h k (counted-tail a h c) low in (x.0, (inr x.1.0, x.1.1)) in
+pub issued : (h : History) (k : ℕ) → IsCounted h → k < value_in Counter h → WasIssued k h
+issued [] k c lt = absurd (omega arith)
+issued (a ∷ h) k c lt =
+    let deeper : k < value_in Counter h → WasIssued k (a ∷ h) =
+    λ low. let x = issued h k (counted-tail a h c) low in (x.0, (inr x.1.0, x.1.1)) in
     elim (counter_step a h c) [
       | inl stays ↦ deeper (omega (arith, stays.value))
       | inr adds ↦
@@ -175,11 +175,11 @@ handed_out (a ∷ h) k c lt =
     ]
 
 -- when a fetch-add finds no cell, none was left
-pub all_handed_out : (size : PoolSize) (h : History) (p k : ℕ) (e : Entry) → IsPoolLawful size h
-    → Has h (fetch p e) → size.cells ≤ e.cell → k < size.cells → WasHandedOut k h
-all_handed_out size h p k e l has high lt =
+pub all_issued : (size : PoolSize) (h : History) (p k : ℕ) (e : Entry) → IsPoolLawful size h
+    → Has h (fetch p e) → size.cells ≤ e.cell → k < size.cells → WasIssued k h
+all_issued size h p k e l has high lt =
     let c = lawful-counted size h l in
-    handed_out h k c (omega (arith, fetch-below h p e c has))
+    issued h k c (omega (arith, fetch-below h p e c has))
 
 -- each fetch-add finds the number of older ones on its word
 pub found_count : (size : PoolSize) (later older : History) (a : PoolAccess) (x n : ℕ)

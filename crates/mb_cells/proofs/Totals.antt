@@ -5,10 +5,10 @@ use Rattle.std.specs.Prelude.{map, nat_eq}
 use Rattle.std.proofs.lemmas.Bool.{cases_eq, cond_both, false≢true}
 use Rattle.std.proofs.lemmas.List.{length-map, length-reverse}
 use Rattle.mb_cells.specs.{AllLinked, END, Entry, FetchAdd, Has, History, LaneIsAt, IsLaneAfter, IsOnceEach, IsPoolLawful, Item, Lane, Phase, PoolAccess}
-use Rattle.mb_cells.specs.{PoolSize, Producer, Store, WasHandedOut, Word, entry_at, fetch, groups, items_put, linked_cells, next_link, part, part_at}
+use Rattle.mb_cells.specs.{PoolSize, Producer, Store, WasIssued, Word, entry_at, fetch, groups, items_put, linked_cells, next_link, part, part_at}
 use Rattle.mb_cells.specs.{place_after, push_store, put_list, stage_of, stage_push_store, store, stored_by}
 use Rattle.mb_cells.specs.Place.{Ended, Full, Offered, Open, Stored}
-use Rattle.mb_cells.proofs.Counts.{all_handed_out}
+use Rattle.mb_cells.proofs.Counts.{all_issued}
 use Rattle.mb_cells.proofs.Histories.{cells_at, cells_of, storer_of}
 use Rattle.mb_cells.proofs.Items.{cell_within, once_each, one_lane}
 use Rattle.mb_cells.proofs.Names.{is_same_process-refl}
@@ -180,7 +180,7 @@ few_in_all size h l =
     omega (arith, most, length_cells size.lanes h)
 
 -- each cell below the counter was found by the fetch-add of some producer
-got_by : (size : PoolSize) (h : History) (k : ℕ) → IsPoolLawful size h → WasHandedOut k h
+got_by : (size : PoolSize) (h : History) (k : ℕ) → IsPoolLawful size h → WasIssued k h
     → (p : ℕ) × ((e : Entry) × (Has h (fetch p e) × (e.cell ≡ k)))
 got_by size h k l (a, (has, (word, (x, act)))) =
     let s = storer_of size h a (k + 1) l has (ap stored_by act) in
@@ -200,7 +200,7 @@ all_items size h p e l has high linked =
     let most = few_in_all size h l in
     let least = at_least size.cells (cells_in size.lanes h)
     (λ k low.
-    let x = got_by size h k l (all_handed_out size h p k e l has high low) in
+    let x = got_by size h k l (all_issued size h p k e l has high low) in
     let at : Has (linked_cells x.0 h) k =
     subst (Has (linked_cells x.0 h)) x.1.1.1
     (linked x.0 x.1.0 x.1.1.0 (subst (λ z. z < size.cells) (sym x.1.1.1) low)) in

@@ -70,8 +70,8 @@ IsOnceEach [] = Unit {0}
 IsOnceEach (k ∷ ks) = (Has ks k → ⊥) × IsOnceEach ks
 
 -- some fetch-add found the number k. So it gave cell k, if the pool has that cell
-abbrev pub WasHandedOut : ℕ → History → Type 0
-WasHandedOut k h =
+abbrev pub WasIssued : ℕ → History → Type 0
+WasIssued k h =
     (a : PoolAccess) × (Has h a × ((a.word ≡ Counter) × ((x : ℕ) × (a.act ≡ FetchAdd x k))))
 
 -- how many items the first n lanes have together

@@ -50,7 +50,7 @@ abbrev pub ReadsLast : Word → PoolAct → History → Type 0
 ReadsLast w act older = IfSome (loaded_by act) (λ v. v ≡ value_in w older)
 
 -- each access that loads a value finds the one stored last in its word, or 0 if none was. In a lawful history a
--- fetch-add then finds the number of earlier ones (law `numbers_are_handed_out_once`)
+-- fetch-add then finds the number of earlier ones (law `numbers_are_issued_once`)
 abbrev pub IsMemoryTrue : History → Type 0
 IsMemoryTrue [] = Unit {0}
 IsMemoryTrue (a ∷ older) = ReadsLast a.word a.act older × IsMemoryTrue older

@@ -4,7 +4,7 @@ pub use Rattle.mb_cells.specs.Memory.{Has, History, IsMemoryTrue, ReadsLast, fet
 pub use Rattle.mb_cells.specs.LanePath.{AllCellsBelow, Entry, FindsNoCell, IsLanePath, IsLanePrefix, ending, fetch, groups, place_after, refusal, store}
 pub use Rattle.mb_cells.specs.ReaderPath.{Gave, IsGift, IsLoad, IsReaderPath, MayRead}
 pub use Rattle.mb_cells.specs.Lawful.{ActFits, AllFit, IsPoolLawful, ProcessFits}
-pub use Rattle.mb_cells.specs.Lanes.{AllLinked, IsOnceEach, WasHandedOut, entry_at, entry_of, has_ended, item_after, item_of, items_put, lane_end, link_of, linked_cells, marks_end, push_if, put_list}
+pub use Rattle.mb_cells.specs.Lanes.{AllLinked, IsOnceEach, WasIssued, entry_at, entry_of, has_ended, item_after, item_of, items_put, lane_end, link_of, linked_cells, marks_end, push_if, put_list}
 pub use Rattle.mb_cells.specs.Met.{HasLoaded, HasMet, IsLinkWord, IsStart, has_cell, is_of_lane, load, part_on, place_past}
 pub use Rattle.mb_cells.specs.Place.{LaneIsAt, Phase, PhaseFits, Steps, part_at, takes_cell, finds_none, fills_cell, links_cell, ends_lane, ends_refused}
 pub use Rattle.mb_cells.specs.Reading.{Reads, look_after, look_of, word_of}

@@ -7,7 +7,7 @@ ghost use Rattle.mb_cells.specs.{AllLinked, IsLaneAfter, Lane, items_put, push_s
 ghost use Rattle.mb_cells.specs.{Call, Counter, END, Entry, FetchAdd, Gave, Has, HasLoaded, HasMade, HasMet, Head};
 ghost use Rattle.mb_cells.specs.{History, IsAfter, IsAnswerBy, IsLinkWord, IsOnceEach, IsPoolLawful, IsReaderPath};
 ghost use Rattle.mb_cells.specs.{IsStart, Item, Link, Offered, PoolAccess, PoolSize, PoolState, Producer, Reader};
-ghost use Rattle.mb_cells.specs.{Reads, WasGivenBy, WasHandedOut, Word, cell_count, fetch, fetch_adds_by};
+ghost use Rattle.mb_cells.specs.{Reads, WasGivenBy, WasIssued, Word, cell_count, fetch, fetch_adds_by};
 ghost use Rattle.mb_cells.specs.{fetch_adds_on, has_ended, is_of_lane, item_in, item_of, lane_count, lane_end};
 ghost use Rattle.mb_cells.specs.{lane_end_by, linked_cells, linked_cells_by, look_after, look_in, look_of, part, part_on};
 ghost use Rattle.mb_cells.specs.{HasFoundNone, HasPending, finish_refusal, offer_refusal};
@@ -67,7 +67,7 @@ pub fn calls_put_items()
         → (k ≡ fetch_adds_by older) × (k < size.cells) }
     ensures full { (size : PoolSize) (p x : ℕ) (older : List Call) (s : PoolState)
         → HasMade size (Offered p x offer.Full ∷ older) s → size.cells ≤ fetch_adds_by older }
-    ensures handed_out { (size : PoolSize) (p x k : ℕ) (older : List Call) (s : PoolState)
+    ensures issued { (size : PoolSize) (p x k : ℕ) (older : List Call) (s : PoolState)
         → HasMade size (Offered p x offer.Full ∷ older) s → k < size.cells
         → WasGivenBy k older }
     ensures counter { (size : PoolSize) (calls : List Call) (s : PoolState) → HasMade size calls s
@@ -193,19 +193,19 @@ pub fn looks_tell_links()
 {}
 
 /// The counter is bounded, and each number below it was given by one fetch-add.
-pub fn numbers_are_handed_out_once()
+pub fn numbers_are_issued_once()
     ensures bound { (size : PoolSize) (h : History) → IsPoolLawful size h
         → value_in Counter h ≤ size.cells + size.lanes }
     ensures given { (size : PoolSize) (h : History) (p : ℕ) (e : Entry) → IsPoolLawful size h
         → Has h (fetch p e) → e.cell < value_in Counter h }
-    ensures handed_out { (size : PoolSize) (h : History) (k : ℕ) → IsPoolLawful size h
-        → k < value_in Counter h → WasHandedOut k h }
+    ensures issued { (size : PoolSize) (h : History) (k : ℕ) → IsPoolLawful size h
+        → k < value_in Counter h → WasIssued k h }
     ensures once { (size : PoolSize) (h : History) (p q : ℕ) (e f : Entry) → IsPoolLawful size h
         → Has h (fetch p e) → Has h (fetch q f) → e.cell ≡ f.cell → fetch p e ≡ fetch q f }
 
     // A fetch-add finds no cell only if none is left.
     ensures refused { (size : PoolSize) (h : History) (p k : ℕ) (e : Entry) → IsPoolLawful size h
-        → Has h (fetch p e) → size.cells ≤ e.cell → k < size.cells → WasHandedOut k h }
+        → Has h (fetch p e) → size.cells ≤ e.cell → k < size.cells → WasIssued k h }
 
     // The counter holds the number of fetch-adds, and each of them finds the number of the older ones.
     ensures counter { (size : PoolSize) (h : History) → IsPoolLawful size h

@@ -8,6 +8,7 @@ mod Deeds
 mod EndLogs
 mod Ends
 mod Freed
+mod Lengths
 pub mod Lives
 mod Logs
 mod LogsTold

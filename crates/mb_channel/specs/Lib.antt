@@ -24,3 +24,4 @@ pub mod HomeSamples
 pub mod Places
 pub mod Posted
 pub mod Kept
+pub mod Lengths

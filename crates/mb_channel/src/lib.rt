@@ -19,6 +19,7 @@ mod answers;
 mod attempt;
 mod busy;
 mod channel;
+mod counting;
 mod cutting;
 mod debtor;
 mod departing;

@@ -1,10 +1,11 @@
 //! A segment, its hub and its passes.
-ghost use Rattle.std.specs.Prelude.{[], IfOk, ◌+◌, ◌<◌, ◌≡◌};
-ghost use Rattle.mb_segment.specs.{IsFree, Issuer, blank, hub_view, issued, new_hub, took_back, view_in};
+ghost use Rattle.std.specs.Prelude.{[], IfOk, ◌+◌, ◌<◌, ◌≡◌, ◌≤◌};
+ghost use Rattle.mb_segment.specs.{IsFree, Issuer, blank, hub_view, issued, learns_drawn, learns_taken};
+ghost use Rattle.mb_segment.specs.{new_hub, took_back, view_in};
 
-use crate::rule::{Passes, SegmentRule};
+use crate::rule::{LearnsDrawn, LearnsTaken, Passes, SegmentRule};
 use crate::view::View;
-use crate::words::STATES;
+use crate::words::{CUT, DRAWN, STATES, TAKEN};
 use atomic_table::{Seat, Table};
 use std::alloc::{AllocError, Allocator, Global};
 
@@ -83,5 +84,25 @@ impl<T: Drop, A: Allocator + Drop> Segment<T, A> {
     {
         let Pass { seat } = pass;
         self.table.shared.join_seat::<Passes>(&mut hub.seat, seat);
+    }
+
+    /// The hub looks how many positions are drawn, and learns of them. One access.
+    pub fn count_drawn(&self, hub: &mut Hub<T>) -> u64
+        requires segment { hub.old.seat.table_id ≡ self.now.table.shared.table_id }
+        ensures segment { hub.new.seat.table_id ≡ hub.old.seat.table_id }
+        ensures hub { hub_view hub.new ≡ learns_drawn result (hub_view hub.old) }
+        ensures more { (hub_view hub.old).known.drawn ≤ result }
+    {
+        self.table.shared.load::<LearnsDrawn>(&mut hub.seat, DRAWN) % CUT
+    }
+
+    /// The same of the positions that are claimed. One access.
+    pub fn count_taken(&self, hub: &mut Hub<T>) -> u64
+        requires segment { hub.old.seat.table_id ≡ self.now.table.shared.table_id }
+        ensures segment { hub.new.seat.table_id ≡ hub.old.seat.table_id }
+        ensures hub { hub_view hub.new ≡ learns_taken result (hub_view hub.old) }
+        ensures more { (hub_view hub.old).known.taken ≤ result }
+    {
+        self.table.shared.load::<LearnsTaken>(&mut hub.seat, TAKEN)
     }
 }

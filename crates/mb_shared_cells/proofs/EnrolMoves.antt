@@ -142,11 +142,11 @@ newcomer_knows size t seat own roll (Reader r) h q theirs e =
     (low, x.0 ∙ h.here, x.1)
 
 -- the hub may split a seat off: for the lane whose number was drawn, or for the next reader
-hands_out : (size : PoolSize) (id : ℕ) (own : PoolSize) (roll : Roll) (who : Process) → IsNext who roll
+issues : (size : PoolSize) (id : ℕ) (own : PoolSize) (roll : Roll) (who : Process) → IsNext who roll
     → Splits (KeepsCells size) id (before who own roll) (Hub own (grown who roll))
     (Member own who (known_by who roll) [])
 unfolding seating_after
-hands_out size id own roll who is s h at =
+issues size id own roll who is s h at =
     let views = s.views in
     let t = h.0 in
     let r = h.1 in
@@ -222,7 +222,7 @@ pub lane_splits : (size : PoolSize) (id : ℕ) (v : View) (own : PoolSize) (roll
 unfolding IsNext grown before known_by
 lane_splits size id v own roll is =
     subst (λ (u : View). Splits (KeepsCells size) id u (hub_after_split u) (newcomer u)) (sym is)
-    (hands_out size id own roll (Producer (length roll.lanes)) refl)
+    (issues size id own roll (Producer (length roll.lanes)) refl)
 
 -- the hub may split off a reader's seat
 pub reader_splits : (size : PoolSize) (id : ℕ) (v : View) (own : PoolSize) (roll : Roll) → v ≡ Hub own roll
@@ -230,4 +230,4 @@ pub reader_splits : (size : PoolSize) (id : ℕ) (v : View) (own : PoolSize) (ro
 unfolding IsNext grown before known_by
 reader_splits size id v own roll is =
     subst (λ (u : View). Splits (KeepsCells size) id u (hub_after_split u) (newcomer u)) (sym is)
-    (hands_out size id own roll (Reader (length roll.readers)) refl)
+    (issues size id own roll (Reader (length roll.readers)) refl)

@@ -20,7 +20,7 @@ ghost use Rattle.mb_shared_cells.specs.Types.{Counter, Cursor, END, Empty, Hub, 
 ghost use Rattle.mb_shared_cells.specs.Types.{PoolAccess, PoolSize, Process, Producer, Push, Reader, Roll, View, Word};
 
 use mb_cells::laws::{
-    cells_stand_once, looks_tell_links, numbers_are_handed_out_once, parts_tell_lanes,
+    cells_stand_once, looks_tell_links, numbers_are_issued_once, parts_tell_lanes,
     readers_follow_lanes, words_lead_through_lanes,
 };
 use mb_cells::steps::{
@@ -137,7 +137,7 @@ pub fn words_stay_in_bounds()
     ensures roster { (size : PoolSize) (words : List ℕ) (views : List View)
         → IsCellsState size words views → slice_index words (roster_of size) ≤ size.lanes }
 {
-    numbers_are_handed_out_once();
+    numbers_are_issued_once();
 }
 
 /// No process is in two views.

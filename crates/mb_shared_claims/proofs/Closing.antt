@@ -1,7 +1,7 @@
 -- How many seats are out, and what the hub has when none is.
 use Rattle.std.proofs.Common.{◌≡◌, ◌⊎◌, ℕ, zero, suc, ◌+◌, ◌≤◌, Some, None, List, [], ◌∷◌, ◌++◌, length, set, refl}
 use Rattle.std.proofs.Common.{sym, ◌∙◌, ⊎_elim, inl, inr, arith, le_refl}
-use Rattle.mb_shared_claims.specs.Types.{ClaimAccess, TableSize, View, Handing}
+use Rattle.mb_shared_claims.specs.Types.{ClaimAccess, TableSize, View, Issuing}
 use Rattle.mb_shared_claims.specs.Views.{claims_of_size, Roll, WasTaken, IsOut, IsViewAt}
 use Rattle.mb_shared_claims.specs.Rule.{IsClaimsState}
 use Rattle.mb_shared_claims.specs.Seats.{count_out, taken_part, AreOfOneHistory}
@@ -41,18 +41,18 @@ all_in (None ∷ rest) c e = absurd (omega arith)
 -- if no seat is out, the parts that the hub has are those of one lawful history
 pub ends :
     (k size : TableSize) (words : List ℕ) (views : List View) (id : ℕ) (roll : Roll) → IsClaimsState k words views
-    → IsViewAt views id (Handing size roll) → count_out roll ≡ 0
+    → IsViewAt views id (Issuing size roll) → count_out roll ≡ 0
     → AreOfOneHistory (claims_of_size k) (taken_part roll)
 ends k size words views id roll held is none_out =
     let plan = held.0 in
     let s = held.1 in
-    let in_roll : length roll ≡ plan.given = (s.fits id (Handing size roll) is).1.1 in (
+    let in_roll : length roll ≡ plan.given = (s.fits id (Issuing size roll) is).1.1 in (
       plan.history,
       s.memory.lawful,
       λ c.
           ⊎_elim
           (λ (t : (done : List ClaimAccess) × WasTaken roll c done × (taken_part roll c ≡ done)).
-          sym (t.2 ∙ (s.parts id c t.0 (Handing size roll, is, t.1)).2))
+          sym (t.2 ∙ (s.parts id c t.0 (Issuing size roll, is, t.1)).2))
           (λ (t : (length roll ≤ c) × (taken_part roll c ≡ [])).
           let far = t.0 in s.others c (omega arith) ∙ sym t.1)
           (all_in roll c none_out),

@@ -7,10 +7,10 @@ use Rattle.atomic_table.specs.Table.{State, keeps, Allows, Splits, Joins}
 use Rattle.mb_deciding.specs.Vocabulary.{IsInWords, reg_of}
 use Rattle.mb_claim.specs.Vocabulary.{part, consumer_count, words_in, address_in, step_of, after_op, IsClaimLawful}
 use Rattle.mb_claim.specs.Vocabulary.{IsMemoryOf}
-use Rattle.mb_shared_claims.specs.Types.{ClaimAccess, ClaimOp, TableSize, View, Handing, Drawing, Standing, Taking}
+use Rattle.mb_shared_claims.specs.Types.{ClaimAccess, ClaimOp, TableSize, View, Issuing, Drawing, Standing, Taking}
 use Rattle.mb_shared_claims.specs.Types.{Spent}
 use Rattle.mb_shared_claims.specs.Views.{claims_of_size, Roll, HasPart, IsViewAt}
-use Rattle.mb_shared_claims.specs.ViewSteps.{Seated, makes, draws, settles, given_out, newcomer, took_in}
+use Rattle.mb_shared_claims.specs.ViewSteps.{Seated, makes, draws, settles, issued, newcomer, took_in}
 use Rattle.mb_shared_claims.specs.Rule.{roster, FitsTable, IsClaimsState}
 use Rattle.mb_shared_claims.specs.SeatSteps.{access_of, MayComeNext}
 use Rattle.mb_shared_claims.proofs.Rolls.{zeros}
@@ -91,14 +91,14 @@ OtherWords k =
 pub draw_allows :
     (k size : TableSize) → OtherWords k → (slots id : ℕ) (roll : Roll) → length roll < consumer_count k.layout
     → length roll < 2 ^ 32
-    → Allows (rule_of k) slots id (Handing size roll, []) (roster k) (λ n. (n + 1) % 2 ^ 64)
-    (λ found now. draws found (Handing size roll, []) now)
+    → Allows (rule_of k) slots id (Issuing size roll, []) (roster k) (λ n. (n + 1) % 2 ^ 64)
+    (λ found now. draws found (Issuing size roll, []) now)
 draw_allows k size others slots id roll room small state held _ is _ =
     let plan = held.0 in
     let s = held.1 in
     let count = slice_index state.words (roster k) in
     let more = (count + 1) % 2 ^ 64 in
-    let fits = s.fits id (Handing size roll) is in
+    let fits = s.fits id (Issuing size roll) is in
     let counted : count ≡ length roll = fits.2 ∙ sym fits.1.1 in
     let is_more : more ≡ suc count = omega arith in (
       Drawing size roll,
@@ -115,7 +115,7 @@ draw_allows k size others slots id roll room small state held _ is _ =
 -- the rule allows the hub to issue the number drawn, with a new seat
 pub give_allows :
     (k size : TableSize) (id : ℕ) (roll : Roll)
-    → Splits (rule_of k) id (Drawing size roll) (Handing size (roll ++ None ∷ [])) (Standing size (length roll) [])
+    → Splits (rule_of k) id (Drawing size roll) (Issuing size (roll ++ None ∷ [])) (Standing size (length roll) [])
 give_allows k size id roll state held is =
     (_, after_giving k state.words state.views held.0 held.1 size id roll is)
 
@@ -123,7 +123,7 @@ give_allows k size id roll state held is =
 -- the rule allows the hub to join a consumer's seat
 pub take_allows :
     (k size its : TableSize) (id other own : ℕ) (roll : Roll) (done : List ClaimAccess)
-    → Joins (rule_of k) id (Handing size roll) other (Standing its own done) (Taking size roll own done) Spent
+    → Joins (rule_of k) id (Issuing size roll) other (Standing its own done) (Taking size roll own done) Spent
 take_allows k size its id other own roll done state held is apart there =
     (_, after_taking k state.words state.views held.0 held.1 size its id other own roll done apart is there)
 
@@ -135,10 +135,10 @@ pub settle_allows :
 settle_allows k size slots id own roll done state held _ is _ =
     let plan = held.0 in
     let s = held.1 in (
-      Handing size (set roll own (Some done)),
+      Issuing size (set roll own (Some done)),
       keeps,
       tt,
-      subst (λ ws. IsClaimsState k ws (set state.views id (Handing size (set roll own (Some done)))))
+      subst (λ ws. IsClaimsState k ws (set state.views id (Issuing size (set roll own (Some done)))))
           (sym (set-get_or state.words 0 0))
           (plan, after_settling k state.words state.views plan s size id own roll done is),
       ((s.fits id (Taking size roll own done) is).3, refl),
@@ -152,7 +152,7 @@ BeginsWithZeros k =
     → IsMemoryOf (claims_of_size k) words []
 
 -- the rule holds of the words and the view of a new table
-pub begins : (k : TableSize) → BeginsWithZeros k → IsClaimsState k (replicate (roster k + 1) 0) (Handing k [] ∷ [])
+pub begins : (k : TableSize) → BeginsWithZeros k → IsClaimsState k (replicate (roster k + 1) 0) (Issuing k [] ∷ [])
 begins k empty = (
   record { history = []; given = 0; hub = 0; place = λ _. 0 },
   record {
@@ -169,15 +169,15 @@ begins k empty = (
 )
   where
     nothing :
-        (seat : ℕ) (v : View) → IsViewAt (Handing k [] ∷ []) seat v
+        (seat : ℕ) (v : View) → IsViewAt (Issuing k [] ∷ []) seat v
         → (c : ℕ) (xs : List ClaimAccess) → HasPart v c xs → ⊥
     nothing zero v e c xs has =
-        let none : HasPart (Handing k []) c xs = subst (λ u. HasPart u c xs)
+        let none : HasPart (Issuing k []) c xs = subst (λ u. HasPart u c xs)
         (sym (some-injective _ _ e)) has in absurd (cc)
     nothing (suc seat) v e c xs has = absurd (some-ne-none v (sym e))
 
     first :
-        (seat : ℕ) (v : View) → IsViewAt (Handing k [] ∷ []) seat v
+        (seat : ℕ) (v : View) → IsViewAt (Issuing k [] ∷ []) seat v
         → FitsTable k (record { history = []; given = 0; hub = 0; place = λ _. 0 })
         (slice_index (replicate (roster k + 1) 0) (roster k)) seat v
     first zero v e =
@@ -201,7 +201,7 @@ access_asked own_part other_parts key k size slots id own at me done f access sa
 -- the rule allows a seat whose view equals the hub's to draw the next number
 pub draw_asked :
     (key k size : TableSize) → OtherWords k → (slots id at : ℕ) (me : Seated) (roll : Roll) → key ≡ k
-    → me ≡ (Handing size roll, []) → at ≡ roster k → length roll < consumer_count k.layout → length roll < 2 ^ 32
+    → me ≡ (Issuing size roll, []) → at ≡ roster k → length roll < consumer_count k.layout → length roll < 2 ^ 32
     → Allows (rule_of key) slots id me at (λ n. (n + 1) % 2 ^ 64) (λ found now. draws found me now)
 draw_asked key k size others slots id at me roll same is is_at room small =
     subst (λ (z : TableSize × Seated × ℕ).
@@ -211,14 +211,14 @@ draw_asked key k size others slots id at me roll same is is_at room small =
 -- the rule allows a seat whose view equals the hub's to issue the number drawn, with a new seat
 pub give_asked :
     (key size : TableSize) (id : ℕ) (v : View) (roll : Roll) → v ≡ Drawing size roll
-    → Splits (rule_of key) id v (given_out v) (newcomer v)
+    → Splits (rule_of key) id v (issued v) (newcomer v)
 give_asked key size id v roll is =
-    subst (λ u. Splits (rule_of key) id u (given_out u) (newcomer u)) (sym is) (give_allows key size id roll)
+    subst (λ u. Splits (rule_of key) id u (issued u) (newcomer u)) (sym is) (give_allows key size id roll)
 
 -- the rule allows a seat whose view equals the hub's to join one whose view equals a consumer's
 pub take_asked :
     (key size its : TableSize) (id other own : ℕ) (v w : View) (roll : Roll) (done : List ClaimAccess)
-    → v ≡ Handing size roll → w ≡ Standing its own done → Joins (rule_of key) id v other w (took_in v w) Spent
+    → v ≡ Issuing size roll → w ≡ Standing its own done → Joins (rule_of key) id v other w (took_in v w) Spent
 take_asked key size its id other own v w roll done is that =
     subst (λ (z : View × View). Joins (rule_of key) id z.0 other z.1 (took_in z.0 z.1) Spent)
     (λ i. (sym is i, sym that i)) (take_allows key size its id other own roll done)

@@ -5,7 +5,7 @@ use Rattle.std.proofs.Common.{length-set, get_or-set_same, get_or-set_other, le_
 use native.Mathlib.Decide.{ℕ_discrete}
 use Rattle.atomic_table.proofs.Lists.{at_set}
 use Rattle.mb_claim.specs.Vocabulary.{part, consumer_count, IsMemoryOf}
-use Rattle.mb_shared_claims.specs.Types.{ClaimAccess, TableSize, View, Handing, Drawing, Standing, Taking, Spent}
+use Rattle.mb_shared_claims.specs.Types.{ClaimAccess, TableSize, View, Issuing, Drawing, Standing, Taking, Spent}
 use Rattle.mb_shared_claims.specs.Views.{claims_of_size, Roll, WasTaken, IsOut, HasPart, IsViewAt, HasPartAt}
 use Rattle.mb_shared_claims.specs.Rule.{roster, Plan, FitsTable, IsStateOf}
 use Rattle.mb_shared_claims.proofs.Rolls.{get-snoc, get_front, get-set_same, get-set_other, get-set, given_at, moved}
@@ -25,7 +25,7 @@ OtherParts = (c : ℕ) (a : ClaimAccess) (h : List ClaimAccess) → a.consumer �
 fits_apart :
     (k : TableSize) (plan other : Plan) (drawn more seat : ℕ) → seat ≢ plan.hub → (v : View)
     → FitsTable k plan drawn seat v → FitsTable k other more seat v
-fits_apart k plan other drawn more seat apart (Handing size roll) f = absurd (apart f.1.0)
+fits_apart k plan other drawn more seat apart (Issuing size roll) f = absurd (apart f.1.0)
 fits_apart k plan other drawn more seat apart (Drawing size roll) f = absurd (apart f.1.0)
 fits_apart k plan other drawn more seat apart (Standing size own done) f = f
 fits_apart k plan other drawn more seat apart (Taking size roll own done) f = absurd (apart f.1.0)
@@ -126,11 +126,11 @@ module _ (k : TableSize) (words : List ℕ) (views : List View) (plan : Plan) (s
       }
 
   -- ---- the hub draws a number: its view fits before, and the roster then counts one more
-  module _ (size : TableSize) (id more : ℕ) (roll : Roll) (is : IsViewAt views id (Handing size roll))
+  module _ (size : TableSize) (id more : ℕ) (roll : Roll) (is : IsViewAt views id (Issuing size roll))
       (is_more : more ≡ suc count) (room : count < consumer_count k.layout)
       (memory : IsMemoryOf (claims_of_size k) (set words (roster k) more) plan.history) where
-    hub_fits : FitsTable k plan count id (Handing size roll)
-    hub_fits = s.fits id (Handing size roll) is
+    hub_fits : FitsTable k plan count id (Issuing size roll)
+    hub_fits = s.fits id (Issuing size roll) is
 
     count_now : slice_index (set words (roster k) more) (roster k) ≡ more
     count_now = let wide = s.wide in get_or-set_same words (roster k) more 0 (omega arith)
@@ -144,13 +144,13 @@ module _ (k : TableSize) (words : List ℕ) (views : List View) (plan : Plan) (s
       few = subst (λ m. m ≤ consumer_count k.layout) (sym count_now) (omega arith);
       drawn = let d = s.drawn in subst (λ m. plan.given ≤ m) (sym count_now) (omega arith);
       stands = λ c below.
-          kept_at views id (plan.place c) c (Handing size roll) (Drawing size roll)
+          kept_at views id (plan.place c) c (Issuing size roll) (Drawing size roll)
           (part c plan.history) is (λ has. has)
           (s.stands c below);
       parts = λ seat c xs has.
           all_set (λ j u. (d : ℕ) (ys : List ClaimAccess) → HasPart u d ys
           → (d < plan.given) × (plan.place d ≡ j) × (ys ≡ part d plan.history)) views id (Drawing size roll)
-          (λ j u _ e d ys h. s.parts j d ys (u, e, h)) (λ d ys h. s.parts id d ys (Handing size roll, is, h)) seat
+          (λ j u _ e d ys h. s.parts j d ys (u, e, h)) (λ d ys h. s.parts id d ys (Issuing size roll, is, h)) seat
           has.0 has.1 c xs has.2;
       others = s.others;
       fits = subst (λ m. (j : ℕ) (u : View) → IsViewAt (set views id (Drawing size roll)) j u → FitsTable k plan m j u)
@@ -166,7 +166,7 @@ module _ (k : TableSize) (words : List ℕ) (views : List View) (plan : Plan) (s
     drawing_fits = s.fits id (Drawing size roll) is
 
     abbrev left : View
-    left = Handing size (roll ++ None ∷ [])
+    left = Issuing size (roll ++ None ∷ [])
 
     abbrev right : View
     right = Standing size (length roll) []
@@ -251,7 +251,7 @@ module _ (k : TableSize) (words : List ℕ) (views : List View) (plan : Plan) (s
 
   -- ---- the hub takes a seat back: its view, all views and the plan then, whose seat that was, and where all parts are
   module _ (size its : TableSize) (id other own : ℕ) (roll : Roll) (done : List ClaimAccess) (apart : other ≢ id)
-      (is : IsViewAt views id (Handing size roll))
+      (is : IsViewAt views id (Issuing size roll))
       (there : IsViewAt (set views id (Taking size roll own done)) other (Standing its own done)) where
     abbrev both : View
     both = Taking size roll own done
@@ -271,8 +271,8 @@ module _ (k : TableSize) (words : List ℕ) (views : List View) (plan : Plan) (s
     theirs : (own < plan.given) × (plan.place own ≡ other) × (done ≡ part own plan.history)
     theirs = s.parts other own done (Standing its own done, was, (refl, refl))
 
-    handing_fits : FitsTable k plan count id (Handing size roll)
-    handing_fits = s.fits id (Handing size roll) is
+    issuing_fits : FitsTable k plan count id (Issuing size roll)
+    issuing_fits = s.fits id (Issuing size roll) is
 
     -- if the part of number d is at another seat than the one returned, d is not the number of the seat returned
     elsewhere : (j d : ℕ) → j ≢ other → plan.place d ≡ j → d ≢ own
@@ -281,10 +281,10 @@ module _ (k : TableSize) (words : List ℕ) (views : List View) (plan : Plan) (s
     was_out : IsOut roll own
     was_out =
         let below = theirs.0 in
-        let in_roll : length roll ≡ plan.given = handing_fits.1.1 in
+        let in_roll : length roll ≡ plan.given = issuing_fits.1.1 in
         ⊎_elim (λ (none : IsOut roll own). none)
         (λ (t : (p : List ClaimAccess) × WasTaken roll own p).
-        absurd (elsewhere id own (λ e. apart (sym e)) (s.parts id own t.0 (Handing size roll, is, t.1)).1 refl))
+        absurd (elsewhere id own (λ e. apart (sym e)) (s.parts id own t.0 (Issuing size roll, is, t.1)).1 refl))
         (given_at roll own (omega arith))
 
     stands_taken :
@@ -295,14 +295,14 @@ module _ (k : TableSize) (words : List ℕ) (views : List View) (plan : Plan) (s
         (subst (λ seat. HasPartAt joined seat own (part own plan.history)) (sym (moved-here plan.place own id)) (
           both,
           Rattle.atomic_table.proofs.Lists.set_else (set views id both) other id Spent (λ e. apart (sym e))
-              ∙ at_replaced views id (Handing size roll) both is,
+              ∙ at_replaced views id (Issuing size roll) both is,
           inl (refl, sym theirs.2),
         ))
     stands_taken c below (no far) =
         subst (λ seat. HasPartAt joined seat c (part c plan.history)) (sym (moved-else plan.place own id c far))
         (kept_at (set views id both) other (plan.place c) c (Standing its own done) Spent (part c plan.history) there
         (λ has. absurd (far has.0))
-        (kept_at views id (plan.place c) c (Handing size roll) both (part c plan.history) is inr (s.stands c below)))
+        (kept_at views id (plan.place c) c (Issuing size roll) both (part c plan.history) is inr (s.stands c below)))
 
     -- in the plan after the join, a part that another seat had is at the same seat
     parts_apart :
@@ -331,7 +331,7 @@ module _ (k : TableSize) (words : List ℕ) (views : List View) (plan : Plan) (s
         (λ (t : (b ≡ own) × (zs ≡ done)).
         subst (λ (z : ℕ × List ClaimAccess). (z.0 < plan.given) × (taken_plan.place z.0 ≡ id)
         × (z.1 ≡ part z.0 plan.history)) (λ i. (sym t.0 i, sym t.1 i)) own_part)
-        (λ (t : WasTaken roll b zs). parts_apart id b zs far' (Handing size roll, is, t)) h')
+        (λ (t : WasTaken roll b zs). parts_apart id b zs far' (Issuing size roll, is, t)) h')
         j u e far d ys h)
         (λ d ys h. absurd h)
         seat has.0 has.1 c xs has.2
@@ -350,8 +350,8 @@ module _ (k : TableSize) (words : List ℕ) (views : List View) (plan : Plan) (s
           (λ j u _ e.
           all_set (FitsTable k taken_plan count) views id both
           (λ i v near e'.
-          fits_apart k plan taken_plan count count i (λ e''. near (e'' ∙ sym handing_fits.1.0)) v (s.fits i v e'))
-          (handing_fits.0, handing_fits.1, handing_fits.2, was_out) j u e)
+          fits_apart k plan taken_plan count count i (λ e''. near (e'' ∙ sym issuing_fits.1.0)) v (s.fits i v e'))
+          (issuing_fits.0, issuing_fits.1, issuing_fits.2, was_out) j u e)
           tt;
     }
 
@@ -379,22 +379,22 @@ module _ (k : TableSize) (words : List ℕ) (views : List View) (plan : Plan) (s
         (get-set roll own c (Some done) (Some xs) e)
 
     -- after that part is put into the roll the same plan explains the table
-    pub after_settling : IsStateOf k words (set views id (Handing size filled)) plan
+    pub after_settling : IsStateOf k words (set views id (Issuing size filled)) plan
     after_settling = record {
       memory = s.memory;
       wide = s.wide;
       few = s.few;
       drawn = s.drawn;
       stands = λ c below.
-          kept_at views id (plan.place c) c (Taking size roll own done) (Handing size filled) (part c plan.history) is
+          kept_at views id (plan.place c) c (Taking size roll own done) (Issuing size filled) (part c plan.history) is
           (in_filled c (part c plan.history)) (s.stands c below);
       parts = λ seat c xs has.
           all_set (λ j u. (d : ℕ) (ys : List ClaimAccess) → HasPart u d ys
-          → (d < plan.given) × (plan.place d ≡ j) × (ys ≡ part d plan.history)) views id (Handing size filled)
+          → (d < plan.given) × (plan.place d ≡ j) × (ys ≡ part d plan.history)) views id (Issuing size filled)
           (λ j u _ e d ys h. s.parts j d ys (u, e, h))
           (λ d ys h. s.parts id d ys (Taking size roll own done, is, from_filled d ys h)) seat
           has.0 has.1 c xs has.2;
       others = s.others;
-      fits = all_set (FitsTable k plan count) views id (Handing size filled) (λ j u _ e. s.fits j u e)
+      fits = all_set (FitsTable k plan count) views id (Issuing size filled) (λ j u _ e. s.fits j u e)
           (taking_fits.0, (taking_fits.1.0, length-set roll own (Some done) ∙ taking_fits.1.1), taking_fits.2);
     }

@@ -3,7 +3,7 @@
 -- parts, and no number is in it twice.
 use Rattle.std.specs.Prelude.{ℕ, suc, ◌≡◌, ◌+◌, ◌<◌, ◌≤◌, List, [], length, slice_index}
 use Rattle.mb_claim.specs.Vocabulary.{part, words_in, consumer_count, IsMemoryOf}
-use Rattle.mb_shared_claims.specs.Types.{ClaimAccess, TableSize, View, Handing, Drawing, Standing, Taking, Spent}
+use Rattle.mb_shared_claims.specs.Types.{ClaimAccess, TableSize, View, Issuing, Drawing, Standing, Taking, Spent}
 use Rattle.mb_shared_claims.specs.Views.{claims_of_size, Roll, IsOut, IsViewAt, HasPartAt}
 
 -- the address of the roster, the word that counts the numbers drawn: after the words of the cells
@@ -28,7 +28,7 @@ IsHub plan seat roll = (seat ≡ plan.hub) × (length roll ≡ plan.given)
 -- the view of a seat has the table's size. The hub's view fits the plan, too: the roster counts the numbers issued, and
 -- one more while the hub issues. The seat that the hub is taking back was out
 abbrev pub FitsTable : TableSize → Plan → ℕ → ℕ → View → Type 0
-FitsTable k plan drawn seat (Handing size roll) = (size ≡ k) × IsHub plan seat roll × (drawn ≡ plan.given)
+FitsTable k plan drawn seat (Issuing size roll) = (size ≡ k) × IsHub plan seat roll × (drawn ≡ plan.given)
 FitsTable k plan drawn seat (Drawing size roll) = (size ≡ k) × IsHub plan seat roll × (drawn ≡ suc plan.given)
 FitsTable k plan drawn seat (Standing size own done) = size ≡ k
 FitsTable k plan drawn seat (Taking size roll own done) =

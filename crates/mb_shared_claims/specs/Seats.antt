@@ -1,7 +1,7 @@
 -- What callers see of a table, its hub and its seats, and what always holds of each.
 use Rattle.std.specs.Prelude.{ℕ, zero, suc, ◌≡◌, ◌+◌, ◌<◌, ◌≤◌, Option, Some, None, List, [], ◌∷◌, length}
 use Rattle.mb_claim.specs.Vocabulary.{Claims, claims_of, part, consumer_count, IsClaimLawful}
-use Rattle.mb_shared_claims.specs.Types.{TableId, ClaimAccess, Layout, MAX_LARGE_CELLS, TableSize, View, Handing, Drawing}
+use Rattle.mb_shared_claims.specs.Types.{TableId, ClaimAccess, Layout, MAX_LARGE_CELLS, TableSize, View, Issuing, Drawing}
 use Rattle.mb_shared_claims.specs.Types.{Standing, Taking, Spent}
 use Rattle.mb_shared_claims.specs.Views.{claims_of_size, Roll}
 use Rattle.mb_shared_claims.specs.ViewSteps.{Seated, roll_of, part_of}
@@ -68,7 +68,7 @@ IsLawfulPart cs c done = (h : List ClaimAccess) × IsClaimLawful cs h × (part c
 -- ---- what always holds of a table, a hub and a seat
 -- the size of the table that a view has, if it has one
 abbrev pub size_in : View → Option TableSize
-size_in (Handing size roll) = Some size
+size_in (Issuing size roll) = Some size
 size_in (Drawing size roll) = Some size
 size_in (Standing size own done) = Some size
 size_in (Taking size roll own done) = Some size
@@ -88,7 +88,7 @@ pub record IsTable (id : TableId) (key size : TableSize) : Type 0 where
 -- what holds of each hub: its seat has the hub's view, and it counts the numbers issued and the seats that are out
 pub record IsHubSeat (me : Seated) (given out : ℕ) : Type 0 where
   pub size : TableSize
-  pub is : me ≡ (Handing size (roll_of me.0), [])
+  pub is : me ≡ (Issuing size (roll_of me.0), [])
   pub all : given ≡ length (roll_of me.0)
   pub absent : out ≡ count_out (roll_of me.0)
 

@@ -12,4 +12,4 @@ pub use Rattle.mb_claim.specs.declared.layout.Layout.{Layout}
 pub use Rattle.mb_claim.specs.declared.layout.TheConstants.{MAX_LARGE_CELLS}
 pub use Rattle.mb_shared_claims.specs.declared.view.TableSize.{TableSize}
 pub use Rattle.mb_shared_claims.specs.declared.view.View.{View}
-pub use Rattle.mb_shared_claims.specs.declared.view.View.TheVariants.{Handing, Drawing, Standing, Taking, Spent}
+pub use Rattle.mb_shared_claims.specs.declared.view.View.TheVariants.{Issuing, Drawing, Standing, Taking, Spent}

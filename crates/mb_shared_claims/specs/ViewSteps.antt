@@ -2,7 +2,7 @@
 use Rattle.std.specs.Prelude.{ℕ, ◌≡◌, Some, None, List, [], ◌∷◌, ◌++◌, length, slice_set}
 use Rattle.atomic_table.specs.Table.{Me}
 use Rattle.mb_claim.specs.Vocabulary.{Claims, part, IsClaimLawful}
-use Rattle.mb_shared_claims.specs.Types.{ClaimAccess, View, Handing, Drawing, Standing, Taking, Spent}
+use Rattle.mb_shared_claims.specs.Types.{ClaimAccess, View, Issuing, Drawing, Standing, Taking, Spent}
 use Rattle.mb_shared_claims.specs.Views.{claims_of_size, Roll, IsOut}
 
 -- a seat with its view. It holds no slots, since the table has none
@@ -11,7 +11,7 @@ Seated = Me (Unit {0}) View
 
 -- the roll in the hub's view, and an empty one for any other view
 abbrev pub roll_of : View → Roll
-roll_of (Handing size roll) = roll
+roll_of (Issuing size roll) = roll
 roll_of (Drawing size roll) = roll
 roll_of (Standing size own done) = []
 roll_of (Taking size roll own done) = roll
@@ -46,13 +46,13 @@ makes a me now = (now ≡ (with_one_more a me.0, me.1)) × ComesAfterView a me.0
 -- ---- how a seat is issued
 -- the view of the hub after it has drawn the next number
 abbrev pub drawn : View → View
-drawn (Handing size roll) = Drawing size roll
+drawn (Issuing size roll) = Drawing size roll
 drawn v = v
 
 -- the view of the hub after it has issued that number: its place in the roll is empty
-abbrev pub given_out : View → View
-given_out (Drawing size roll) = Handing size (roll ++ None ∷ [])
-given_out v = v
+abbrev pub issued : View → View
+issued (Drawing size roll) = Issuing size (roll ++ None ∷ [])
+issued v = v
 
 -- the view of the seat that gets that number, whose consumer has done nothing
 abbrev pub newcomer : View → View
@@ -66,12 +66,12 @@ draws found me now = (found ≡ length (roll_of me.0)) × (now ≡ (drawn me.0, 
 -- ---- how a seat is returned
 -- the view of the hub after a seat was joined to it: the seat's part is beside the roll
 abbrev pub took_in : View → View → View
-took_in (Handing size roll) (Standing other own done) = Taking size roll own done
+took_in (Issuing size roll) (Standing other own done) = Taking size roll own done
 took_in v w = v
 
 -- the view of the hub after that part was put in its place in the roll
 abbrev pub settled : View → View
-settled (Taking size roll own done) = Handing size (slice_set roll own (Some done))
+settled (Taking size roll own done) = Issuing size (slice_set roll own (Some done))
 settled v = v
 
 -- the seat that is being returned was out

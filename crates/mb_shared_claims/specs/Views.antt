@@ -3,7 +3,7 @@ use Rattle.std.specs.Prelude.{ℕ, ◌≡◌, ◌⊎◌, Option, Some, None, Lis
 use mathlib.Core.Option.{some}
 use lib.ListN.{get_elem?}
 use Rattle.mb_claim.specs.Vocabulary.{Claims, claims_in}
-use Rattle.mb_shared_claims.specs.Types.{ClaimAccess, TableSize, View, Handing, Drawing, Standing, Taking, Spent}
+use Rattle.mb_shared_claims.specs.Types.{ClaimAccess, TableSize, View, Issuing, Drawing, Standing, Taking, Spent}
 
 -- the claims on the cells of a table of this size
 abbrev pub claims_of_size : TableSize → Claims
@@ -23,7 +23,7 @@ IsOut roll c = slice_get roll c ≡ Some None
 
 -- the view has this part of consumer c: it is the view of c's seat, or the view of the hub, which took that seat back
 abbrev pub HasPart : View → ℕ → List ClaimAccess → Type 0
-HasPart (Handing size roll) c xs = WasTaken roll c xs
+HasPart (Issuing size roll) c xs = WasTaken roll c xs
 HasPart (Drawing size roll) c xs = WasTaken roll c xs
 HasPart (Standing size own done) c xs = (c ≡ own) × (xs ≡ done)
 HasPart (Taking size roll own done) c xs = ((c ≡ own) × (xs ≡ done)) ⊎ WasTaken roll c xs

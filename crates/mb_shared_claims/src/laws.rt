@@ -10,7 +10,7 @@ ghost use Rattle.mb_deciding.specs.Vocabulary.{ChecksKeepOut, IsInWords, object_
 ghost use Rattle.mb_claim.specs.declared.access.Stage.TheVariants.{Won};
 ghost use Rattle.mb_claim.specs.Vocabulary.{part, consumer_count, IsWordInLayout, IsMemoryOf, access_in, words_after};
 ghost use Rattle.mb_claim.specs.Vocabulary.{IsClaimPrefix, IsUsedWith, StageNames, kinds_of, object_history, part_on, quorums_of};
-ghost use Rattle.mb_shared_claims.specs.{ClaimAccess, ClaimOp, Stage, TableSize, View, Handing, Drawing, Standing, Taking, Spent};
+ghost use Rattle.mb_shared_claims.specs.{ClaimAccess, ClaimOp, Stage, TableSize, View, Issuing, Drawing, Standing, Taking, Spent};
 ghost use Rattle.mb_shared_claims.specs.{claims_of_size, Roll, IsViewAt, HasPartAt, roster, IsClaimsState, MayComeNext};
 
 use mb_claim::laws::{claims_have_one_winner, layouts_are_sound, objects_have_lawful_histories};
@@ -48,7 +48,7 @@ pub fn states_have_one_history()
 pub fn steps_keep_states()
     // The words of a new table, all 0, and the view of its hub, with no number issued, are a state.
     ensures new { (k : TableSize)
-        → IsClaimsState k (replicate (roster k + 1) 0) (Handing k [] ∷ []) }
+        → IsClaimsState k (replicate (roster k + 1) 0) (Issuing k [] ∷ []) }
 
     // An access that may come next leads to a state, be it a load, a store or an exchange. It changes one view alone.
     ensures access { (k size : TableSize) (words : List ℕ) (views : List View)
@@ -63,19 +63,19 @@ pub fn steps_keep_states()
 
     // The hub draws a number by a fetch-add on the roster. Then it issues the number, by a split of its view.
     ensures draw { (k size : TableSize) (words : List ℕ) (views : List View) (id : ℕ) (roll : Roll)
-        → IsClaimsState k words views → IsViewAt views id (Handing size roll)
+        → IsClaimsState k words views → IsViewAt views id (Issuing size roll)
         → length roll < consumer_count k.layout
         → IsClaimsState k (slice_set words (roster k) (suc (slice_index words (roster k))))
         (slice_set views id (Drawing size roll)) }
     ensures give { (k size : TableSize) (words : List ℕ) (views : List View) (id : ℕ) (roll : Roll)
         → IsClaimsState k words views → IsViewAt views id (Drawing size roll)
-        → IsClaimsState k words (slice_set views id (Handing size (roll ++ None ∷ []))
+        → IsClaimsState k words (slice_set views id (Issuing size (roll ++ None ∷ []))
         ++ Standing size (length roll) [] ∷ []) }
 
     // The hub takes a seat back by a join of its view. The load after it puts the seat's part into the roll.
     ensures take { (k size its : TableSize) (words : List ℕ) (views : List View) (id other own : ℕ)
         (roll : Roll) (done : List ClaimAccess)
-        → IsClaimsState k words views → other ≢ id → IsViewAt views id (Handing size roll)
+        → IsClaimsState k words views → other ≢ id → IsViewAt views id (Issuing size roll)
         → IsViewAt views other (Standing its own done)
         → IsClaimsState k words
         (slice_set (slice_set views id (Taking size roll own done)) other Spent) }
@@ -83,7 +83,7 @@ pub fn steps_keep_states()
         (roll : Roll) (done : List ClaimAccess)
         → IsClaimsState k words views → IsViewAt views id (Taking size roll own done)
         → IsClaimsState k words
-        (slice_set views id (Handing size (slice_set roll own (Some done)))) }
+        (slice_set views id (Issuing size (slice_set roll own (Some done)))) }
 {
     accesses_lengthen_one_part();
     addresses_are_apart();

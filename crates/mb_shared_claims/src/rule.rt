@@ -11,12 +11,12 @@ pub struct ClaimsRule;
 
 impl TableRule<(), View, TableSize> for ClaimsRule {
     ghost use Rattle.std.specs.Prelude.{[]};
-    ghost use Rattle.mb_shared_claims.specs.declared.view.View.TheVariants.{Handing};
+    ghost use Rattle.mb_shared_claims.specs.declared.view.View.TheVariants.{Issuing};
     ghost use Rattle.mb_shared_claims.specs.Rule.{IsClaimsState};
 
     ghost holds = { λ size s. IsClaimsState size s.words s.views };
 
-    ghost first = { λ size. Handing size [] };
+    ghost first = { λ size. Issuing size [] };
 }
 
 /// The access that a step makes, by the value that it finds. The proof of a caller picks it.
@@ -57,12 +57,12 @@ impl Play<(), View> for Draws {
 }
 
 /// The split of the hub's view: the number that was drawn is issued, with a seat of its own.
-pub struct GivesOut;
+pub struct Issues;
 
-impl Split<View> for GivesOut {
-    ghost use Rattle.mb_shared_claims.specs.ViewSteps.{given_out, newcomer};
+impl Split<View> for Issues {
+    ghost use Rattle.mb_shared_claims.specs.ViewSteps.{issued, newcomer};
 
-    ghost left = { given_out };
+    ghost left = { issued };
 
     ghost right = { newcomer };
 }

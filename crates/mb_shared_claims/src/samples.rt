@@ -2,7 +2,7 @@
 //! contracts are the samples.
 ghost use Rattle.std.specs.Prelude.{ℕ, ◌≡◌, ◌+◌, ◌<◌, List, [], ◌∷◌, replicate, slice_index};
 ghost use Rattle.mb_claim.specs.Vocabulary.{IsWordIn, address_in};
-ghost use Rattle.mb_shared_claims.specs.{Handing, IsClaimsState, Reg, TableSize, claims_of_size, roster};
+ghost use Rattle.mb_shared_claims.specs.{Issuing, IsClaimsState, Reg, TableSize, claims_of_size, roster};
 
 use crate::laws::steps_keep_states;
 use mb_claim::steps::accesses_lengthen_one_part;
@@ -11,7 +11,7 @@ use mb_claim::steps::accesses_lengthen_one_part;
 pub fn words_and_views_agree()
     // All words are 0, and the hub alone has a view, with no number issued.
     ensures new { (k : TableSize)
-        → IsClaimsState k (replicate (roster k + 1) 0) (Handing k [] ∷ []) }
+        → IsClaimsState k (replicate (roster k + 1) 0) (Issuing k [] ∷ []) }
 {
     steps_keep_states();
 }
@@ -22,7 +22,7 @@ pub fn words_and_views_disagree()
     ensures { (k : TableSize) (o : ℕ) (reg : Reg) (words : List ℕ) → 0 < k.cells
         → IsWordIn (claims_of_size k) o reg
         → slice_index words (address_in (claims_of_size k) 0 o reg) ≡ 1
-        → IsClaimsState k words (Handing k [] ∷ []) → ⊥ }
+        → IsClaimsState k words (Issuing k [] ∷ []) → ⊥ }
 {
     accesses_lengthen_one_part();
 }

@@ -4,7 +4,7 @@ mod straight;
 mod zeros;
 
 use crate::hub::{AllGiven, ClaimHub};
-use crate::rule::{ClaimsRule, Draws, GivesOut, Settles, TakesIn};
+use crate::rule::{ClaimsRule, Draws, Issues, Settles, TakesIn};
 use crate::seat::ClaimSeat;
 use crate::view::{TableSize, View};
 use atomic_table::Table;
@@ -115,7 +115,7 @@ impl<A: Allocator + Drop> SharedClaims<A> {
             .table
             .shared
             .fetch_add::<Draws>(&mut hub.seat, roster, 1);
-        let seat = self.table.shared.split_seat::<GivesOut>(&mut hub.seat);
+        let seat = self.table.shared.split_seat::<Issues>(&mut hub.seat);
         hub.given += 1;
         hub.out += 1;
         Ok(ClaimSeat {

@@ -16,7 +16,7 @@ pub struct TableSize {
 /// seat was returned, and none if it is out.
 pub enum View {
     /// The hub's view, between two of its calls.
-    Handing(TableSize, LinkedList<Option<LinkedList<ClaimAccess>>>),
+    Issuing(TableSize, LinkedList<Option<LinkedList<ClaimAccess>>>),
     /// The hub's view while it issues: the next number was drawn from the roster and is not issued yet.
     Drawing(TableSize, LinkedList<Option<LinkedList<ClaimAccess>>>),
     /// The view of a consumer's seat: its number and its part.

@@ -18,8 +18,8 @@ ghost use Rattle.mb_world.specs.declared.event.Event.TheVariants as event;
 
 use crate::known::{sound_histories_are_known, worlds_are_known};
 use mb_cells::laws::{
-    cells_stand_once, end_marks_are_last, lanes_refuse_by_what_was_done,
-    numbers_are_handed_out_once, readers_keep_to_lanes, words_lead_through_lanes,
+    cells_stand_once, end_marks_are_last, lanes_refuse_by_what_was_done, numbers_are_issued_once,
+    readers_keep_to_lanes, words_lead_through_lanes,
 };
 use mb_cells::steps::{accesses_stay_within, history_extends, lanes_lead_on};
 use mb_claim::laws::{last_objects_decide_claims, prefixes_have_one_stage};
@@ -265,7 +265,7 @@ pub fn events_of_producers_are_refused_or_made()
     cells_stand_once();
     lanes_lead_on();
     accesses_stay_within();
-    numbers_are_handed_out_once();
+    numbers_are_issued_once();
     worlds_are_sound();
     history_extends();
     events_are_known();

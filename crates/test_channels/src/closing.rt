@@ -1,9 +1,7 @@
 //! A channel is closed, or loses its last sender, while receivers sleep. They get what is left, and are told so.
-ghost use Rattle.std.specs.Prelude.{◌≡◌};
-ghost use Rattle.std.specs.Thread.{IsSync};
 ghost use Rattle.mb_channel.specs.Ends.{AreOfOneChannel};
+ghost use Rattle.std.specs.Thread.{IsSync};
 
-use crate::channels::send_all;
 use mb_channel::{Receiver, Refused, Sender, unbounded};
 use std::alloc::{AllocError, Global};
 use std::process::Abort;
@@ -12,10 +10,8 @@ use std::test::Fail;
 use std::thread::{Threads, join, sleep};
 use std::time::{Clock, Duration};
 
-/// Receives until the channel is closed. Returns how many values came, their sum, and the receiver.
-fn drain<R: Wait>(rt: &R, receiver: Receiver<u64>) -> (u64, u64, Receiver<u64>)
-    ensures channel { AreOfOneChannel receiver.end result.2.end }
-{
+/// Receives until the channel is closed. Returns how many values came, and their sum.
+fn drain<R: Wait>(rt: &R, receiver: Receiver<u64>) -> (u64, u64) {
     let mut receiver = receiver;
     let mut count: u64 = 0;
     let mut sum: u64 = 0;
@@ -25,132 +21,99 @@ fn drain<R: Wait>(rt: &R, receiver: Receiver<u64>) -> (u64, u64, Receiver<u64>)
                 count = count.wrapping_add(1);
                 sum = sum.wrapping_add(value);
             }
-            Err(Refused::Closed) => return (count, sum, receiver),
-            Err(Refused::NoMemory) => {}
-            Err(Refused::Crowded) => {}
+            Err(Refused::Closed) => break,
+            Err(_) => {}
         }
     }
-    unreachable!()
+    (count, sum)
 }
 
-/// Two threads do so. Returns how many values came in all, their sum, and the receivers.
-fn drain_both<R: Threads + Wait + Sync>(
-    rt: &R,
-    a: Receiver<u64>,
-    b: Receiver<u64>,
-) -> (u64, u64, Receiver<u64>, Receiver<u64>)
+/// Two threads do so. Returns how many values came in all, and their sum.
+fn drain_both<R: Threads + Wait + Sync>(rt: &R, a: Receiver<u64>, b: Receiver<u64>) -> (u64, u64)
     requires sync { IsSync R.row }
-    ensures channel { AreOfOneChannel a.end result.2.end × AreOfOneChannel b.end result.3.end }
 {
     let (x, y) = join(rt, move || drain(rt, a), move || drain(rt, b));
-    (x.0.wrapping_add(y.0), x.1.wrapping_add(y.1), x.2, y.2)
+    (x.0.wrapping_add(y.0), x.1.wrapping_add(y.1))
 }
 
-/// Sends the numbers below this one, and waits until the receivers have got them and sleep.
-fn feed<R: Wait + Clock>(rt: &R, sender: Sender<u64>, many: u64) -> Sender<u64>
+/// Sends the numbers below this one, in order.
+fn send_all<R: Wait>(rt: &R, sender: Sender<u64>, many: u64) -> Sender<u64>
     ensures channel { AreOfOneChannel sender.end result.end }
 {
-    let sender = send_all(rt, sender, many);
-    sleep(rt, Duration::from_millis(30));
+    let mut sender = sender;
+    for value in 0..many {
+        drop(sender.send(rt, value));
+    }
     sender
 }
 
-/// Then closes the channel. Returns whether a further value came back, as it was closed.
-fn close_after<R: Wait + Clock>(rt: &R, sender: Sender<u64>, many: u64) -> (bool, Sender<u64>)
-    ensures channel { AreOfOneChannel sender.end result.1.end }
-{
-    let mut sender = feed(rt, sender, many);
+/// Sends the numbers below this one, waits until the receivers have got them and sleep, and closes the channel. Returns
+/// whether a further value came back, as it was closed.
+fn close_after<R: Wait + Clock>(rt: &R, sender: Sender<u64>, many: u64) -> bool {
+    let mut sender = send_all(rt, sender, many);
+    sleep(rt, Duration::from_millis(30));
     sender.close(rt);
-    let refused = match sender.send(rt, 7) {
-        Ok(()) => false,
-        Err(not_sent) => not_sent.value == 7 && not_sent.why == Refused::Closed,
-    };
-    (refused, sender)
+    matches!(&sender.send(rt, 7), Err(refused) if refused.why == Refused::Closed)
 }
 
 /// Or gives the sender back. Returns whether it was the last.
-fn give_after<R: Wait + Clock>(
-    rt: &R,
-    sender: Sender<u64>,
-    many: u64,
-    to: Receiver<u64>,
-) -> (bool, Receiver<u64>)
+fn give_after<R: Wait + Clock>(rt: &R, sender: Sender<u64>, many: u64, to: Receiver<u64>) -> bool
     requires channel { AreOfOneChannel to.end sender.end }
 {
-    let sender = feed(rt, sender, many);
+    let sender = send_all(rt, sender, many);
+    sleep(rt, Duration::from_millis(30));
     let mut to = to;
-    let last = to.give_sender(rt, sender);
-    (last, to)
+    to.give_sender(rt, sender)
 }
 
-/// How many values came in all, their sum, whether the further value came back, and whether the channel ended.
 fn run_close<R: Threads + Wait + Clock + Abort + Sync>(
     rt: &R,
     alloc: Global,
     many: u64,
-) -> Result<(u64, u64, bool, bool), AllocError> {
-    let (c, mut first) = unbounded::<u64>(alloc)?;
-    let a = first.another().expect(rt, "an end");
-    let b = first.another().expect(rt, "an end");
-    let (got, (refused, c)) = join(
+) -> Result<((u64, u64), bool), AllocError> {
+    let (sender, mut a) = unbounded::<u64>(alloc)?;
+    let b = a.another().expect(rt, "an end");
+    Ok(join(
         rt,
         move || drain_both(rt, a, b),
-        move || close_after(rt, c, many),
-    );
-    first.give_receiver(rt, got.2);
-    first.give_receiver(rt, got.3);
-    let last = first.give_sender(rt, c);
-    let ended = first.end(rt);
-    Ok((got.0, got.1, refused, last && ended.is_some()))
+        move || close_after(rt, sender, many),
+    ))
 }
 
-/// How many values came in all, their sum, and whether the first sender and the second were the last.
 fn run_give<R: Threads + Wait + Clock + Abort + Sync>(
     rt: &R,
     alloc: Global,
     many: u64,
-) -> Result<(u64, u64, bool, bool), AllocError> {
-    let (mut c, mut first) = unbounded::<u64>(alloc)?;
-    let a = first.another().expect(rt, "an end");
-    let b = first.another().expect(rt, "an end");
-    let d = c.another().expect(rt, "an end");
-    let early = first.give_sender(rt, d);
-    let (got, (last, first)) = join(
+) -> Result<((u64, u64), bool), AllocError> {
+    let (sender, mut to) = unbounded::<u64>(alloc)?;
+    let a = to.another().expect(rt, "an end");
+    let b = to.another().expect(rt, "an end");
+    Ok(join(
         rt,
         move || drain_both(rt, a, b),
-        move || give_after(rt, c, many, first),
-    );
-    drop(got.2);
-    drop(got.3);
-    drop(first);
-    Ok((got.0, got.1, early, last))
+        move || give_after(rt, sender, many, to),
+    ))
 }
 
 #[test]
 fn close_wakes_those_that_sleep(rt: HostRuntime) -> Result<(), Fail> {
-    let all = run_close(&rt, rt.alloc(), 100)?;
-    assert!(rt; all == (100, 4950, true, true));
+    assert!(rt; run_close(&rt, rt.alloc(), 100)? == ((100, 4950), true));
     Ok(())
 }
 
 #[test]
 fn the_last_sender_wakes_those_that_sleep(rt: HostRuntime) -> Result<(), Fail> {
-    let all = run_give(&rt, rt.alloc(), 100)?;
-    assert!(rt; all == (100, 4950, false, true));
+    assert!(rt; run_give(&rt, rt.alloc(), 100)? == ((100, 4950), true));
     Ok(())
 }
 
 #[test]
 fn a_receiver_closes_and_gets_what_is_left(rt: HostRuntime) -> Result<(), Fail> {
     let (sender, mut receiver) = unbounded::<u64>(rt.alloc())?;
-    let mut sender = feed(&rt, sender, 70);
+    drop(send_all(&rt, sender, 70));
     let closed = receiver.close(&rt);
-    let refused = sender.send(&rt, 70);
-    let (count, sum, mut receiver) = drain(&rt, receiver);
-    let again = receiver.try_receive();
-    assert!(rt; closed && count == 70 && sum == 2415);
-    assert!(rt; matches!(&refused, Err(e) if e.value == 70 && e.why == Refused::Closed));
-    assert!(rt; matches!(&again, Err(Refused::Closed)));
+    let got = drain(&rt, receiver);
+    assert!(rt; (closed, got) == (true, (70, 2415)));
     Ok(())
 }
 
@@ -158,11 +121,9 @@ fn a_receiver_closes_and_gets_what_is_left(rt: HostRuntime) -> Result<(), Fail> 
 fn what_was_left_at_the_end_comes_out(rt: HostRuntime) -> Result<(), Fail> {
     let (mut sender, mut receiver) = unbounded::<u64>(rt.alloc())?;
     drop(sender.send(&rt, 1));
-    drop(sender.send(&rt, 2));
-    sender.close(&rt);
     receiver.give_sender(&rt, sender);
     let ending = receiver.end(&rt).expect(&rt, "all are back");
     let mut rest = ending.finish().ok().expect(&rt, "nobody is inside");
-    assert!(rt; rest.next() == Some(1) && rest.next() == Some(2) && rest.next().is_none());
+    assert!(rt; (rest.next(), rest.next()) == (Some(1), None));
     Ok(())
 }

@@ -5,8 +5,6 @@
 #[cfg(test)]
 mod bounded;
 #[cfg(test)]
-mod channels;
-#[cfg(test)]
 mod closing;
 #[cfg(test)]
 mod crowds;
@@ -16,7 +14,5 @@ mod rings;
 mod segments;
 #[cfg(test)]
 mod sleeping;
-#[cfg(test)]
-mod telling;
 #[cfg(test)]
 mod ways;

@@ -1,5 +1,5 @@
 //! Threads over the channel's calls that never wait: two receivers sleep, and a sender wakes them. A receiver also sleeps
-//! where it has to add the segment. Then an answer that comes only between segments.
+//! where it has to add the segment.
 ghost use Rattle.std.specs.Thread.{IsSync};
 
 use crate::ways::awake;
@@ -112,18 +112,6 @@ fn sleepers_are_woken(rt: HostRuntime) -> Result<(), Fail> {
     Ok(())
 }
 
-/// A sender falls two segments behind. It needs one try more than a call makes.
-fn behind<R: Wait>(rt: &R, slow: Sender<u64>, quick: Sender<u64>) -> (bool, Sender<u64>) {
-    let slow = send_one(rt, slow, 0);
-    drop(send_to(rt, quick, 1086));
-    match slow.try_send(1) {
-        Sending::Sent(slow) => (false, slow),
-        Sending::Owes(owing) => (false, owing.pay(rt)),
-        Sending::Again(slow, value) => (value == 1, slow),
-        Sending::Refused(slow, _) => (false, slow),
-    }
-}
-
 /// Polls, and tells another thread so. Then it sleeps until this value comes. Whether it slept, and received that value.
 fn sleep_for<R: Wait>(rt: &R, receiver: Receiver<u64>, polled: Sender<u64>, last: u64) -> bool {
     let found = awake(rt, receiver.poll_receive());
@@ -178,25 +166,6 @@ fn is_woken<R: Threads + Wait + Abort + Sync>(
     );
     drop(sender);
     Ok(woken)
-}
-
-#[test]
-fn a_sender_that_is_behind_tries_again(rt: HostRuntime) -> Result<(), Fail> {
-    let (mut slow, receiver) = unbounded::<u64>(rt.alloc())?;
-    let quick = slow.another().expect(&rt, "an end");
-    let (again, slow) = behind(&rt, slow, quick);
-    drop(send_one(&rt, slow, 1));
-    drop(receiver);
-    assert!(rt; again);
-    Ok(())
-}
-
-#[test]
-fn a_receiver_sleeps_before_the_first_value(rt: HostRuntime) -> Result<(), Fail> {
-    let (sender, receiver) = unbounded::<u64>(rt.alloc())?;
-    let woken = is_woken(&rt, rt.alloc(), sender, receiver, 0)?;
-    assert!(rt; woken);
-    Ok(())
 }
 
 #[test]

@@ -1,32 +1,8 @@
-//! Each answer of the channel's calls that never wait, in one thread.
+//! Calls of the channel that never wait, in one thread, and what an end tells another one.
 
 use mb_channel::{Asleep, Polled, Receiver, Sender, Sending, unbounded};
 use std::sync::Wait;
 use std::test::Fail;
-
-/// What a send answers.
-#[derive(Clone, Copy, PartialEq, Eq, Debug, Drop)]
-enum Sent {
-    Calm,
-    /// A token was given, and a thread has to be woken.
-    Wakes,
-    /// Tokens were owed to all, and nobody slept.
-    All,
-    Not,
-}
-
-fn send<R: Wait>(rt: &R, sender: Sender<u64>, value: u64) -> (Sent, Sender<u64>) {
-    match sender.try_send(value) {
-        Sending::Sent(sender) => (Sent::Calm, sender),
-        Sending::Owes(owing) => match owing.pay_some() {
-            (true, Ok(sender)) => (Sent::Wakes, sender),
-            (false, Ok(sender)) => (Sent::All, sender),
-            (_, Err(owing)) => (Sent::Not, owing.pay(rt)),
-        },
-        Sending::Again(sender, _) => (Sent::Not, sender),
-        Sending::Refused(sender, _) => (Sent::Not, sender),
-    }
-}
 
 /// What a receiver has that does not sleep: a value, or none.
 pub(crate) fn awake<R: Wait>(
@@ -43,102 +19,96 @@ pub(crate) fn awake<R: Wait>(
     }
 }
 
-/// A receiver takes the first value, and falls asleep. A sender gives it a token. It wakes up, and takes the second.
-fn sleep_and_wake<R: Wait>(
-    rt: &R,
-    sender: Sender<u64>,
-    receiver: Receiver<u64>,
-) -> (Option<u64>, Sent, Sent, Option<u64>) {
-    let (calm, sender) = send(rt, sender, 7);
-    let (first, receiver) = match receiver.poll_receive() {
-        Polled::Took(receiver, value) => (Some(value), receiver),
-        other => return (drop_all(rt, other), calm, Sent::Not, None),
-    };
-    let asleep = match awake(rt, receiver.poll_receive()) {
-        Ok(asleep) => asleep,
-        Err(_) => return (first, calm, Sent::Not, None),
-    };
-    // No token is there, so it sleeps on.
-    let asleep = match awake(rt, asleep.wake_up()) {
-        Ok(asleep) => asleep,
-        Err(_) => return (first, calm, Sent::Not, None),
-    };
-    let (wakes, sender) = send(rt, sender, 8);
-    drop(sender);
-    let second = drop_all(rt, asleep.wake_up());
-    (first, calm, wakes, second)
-}
-
-/// The value that was received. A receiver that sleeps gives up.
-fn drop_all<R: Wait>(rt: &R, polled: Polled<u64>) -> Option<u64> {
-    match awake(rt, polled) {
-        Ok(asleep) => {
-            drop(asleep.give_up().pay(rt));
-            None
-        }
-        Err((value, receiver)) => {
-            drop(receiver);
-            value
-        }
+/// Sends a value to a receiver that sleeps. Whether it was given a token, so that a thread has to be woken.
+fn wakes<R: Wait>(rt: &R, sender: Sender<u64>, value: u64) -> bool {
+    match sender.try_send(value) {
+        Sending::Owes(owing) => match owing.pay_some() {
+            (wakes, Ok(sender)) => {
+                drop(sender);
+                wakes
+            }
+            (_, Err(owing)) => {
+                drop(owing.pay(rt));
+                false
+            }
+        },
+        Sending::Sent(_) => false,
+        Sending::Again(_, _) => false,
+        Sending::Refused(_, _) => false,
     }
 }
 
-/// A receiver falls asleep, gets a token, and gives up. The value is received after that. How often it paid.
+/// A receiver falls asleep, gets a token, and gives up. Whether it got one, and how often it paid.
 fn give_up_with_a_token<R: Wait>(
     rt: &R,
     sender: Sender<u64>,
     receiver: Receiver<u64>,
-) -> (Sent, u64) {
-    let (_, sender) = send(rt, sender, 7);
-    let receiver = match receiver.poll_receive() {
-        Polled::Took(receiver, _) => receiver,
-        other => {
-            drop(drop_all(rt, other));
-            return (Sent::Not, 0);
-        }
+) -> (bool, u64) {
+    let Ok(asleep) = awake(rt, receiver.poll_receive()) else {
+        return (false, 0);
     };
-    let asleep = match awake(rt, receiver.poll_receive()) {
-        Ok(asleep) => asleep,
-        Err(_) => return (Sent::Not, 0),
-    };
-    let (wakes, sender) = send(rt, sender, 8);
-    drop(sender);
+    let woken = wakes(rt, sender, 8);
     let place = asleep.place();
     let mut leaving = asleep.give_up();
     if leaving.place() != place {
         drop(leaving.pay(rt));
-        return (wakes, 0);
+        return (woken, 0);
     }
     for times in 1..9 {
         match leaving.pay_some() {
             (_, Ok(receiver)) => {
                 drop(receiver);
-                return (wakes, times);
+                return (woken, times);
             }
             (_, Err(back)) => leaving = back,
         }
     }
     drop(leaving.pay(rt));
-    (wakes, 9)
-}
-
-#[test]
-fn a_sleeper_is_woken(rt: HostRuntime) -> Result<(), Fail> {
-    let (sender, receiver) = unbounded::<u64>(rt.alloc())?;
-    let (first, calm, wakes, second) = sleep_and_wake(&rt, sender, receiver);
-    assert!(rt; first == Some(7));
-    assert!(rt; calm == Sent::Calm);
-    assert!(rt; wakes == Sent::Wakes);
-    assert!(rt; second == Some(8));
-    Ok(())
+    (woken, 9)
 }
 
 #[test]
 fn a_sleeper_gives_up_with_a_token(rt: HostRuntime) -> Result<(), Fail> {
     let (sender, receiver) = unbounded::<u64>(rt.alloc())?;
-    let (wakes, times) = give_up_with_a_token(&rt, sender, receiver);
-    assert!(rt; wakes == Sent::Wakes);
     // It no longer waits. It leaves with the token, and finds that nobody else sleeps.
-    assert!(rt; times == 2);
+    assert!(rt; give_up_with_a_token(&rt, sender, receiver) == (true, 2));
+    Ok(())
+}
+
+/// A sender tells how far it knows, and another one learns that, and so does the receiver once it has received the value.
+#[test]
+fn ends_learn_what_another_knows(rt: HostRuntime) -> Result<(), Fail> {
+    let (mut sender, mut receiver) = unbounded::<u64>(rt.alloc())?;
+    let mut other = sender.another().expect(&rt, "an end");
+    drop(sender.send(&rt, 1));
+    let place = sender.known();
+    let told = other.learn(place);
+    let early = receiver.learn(place);
+    drop(receiver.receive(&rt));
+    let late = receiver.learn(place);
+    let back = receiver.known();
+    assert!(rt; (told, early, late, sender.learn(back)) == (true, false, true, true));
+    Ok(())
+}
+
+#[test]
+fn ends_count_what_waits(rt: HostRuntime) -> Result<(), Fail> {
+    let (mut sender, mut receiver) = unbounded::<u64>(rt.alloc())?;
+    let none = (sender.len(&rt), receiver.try_len());
+    for value in 0..100 {
+        drop(sender.send(&rt, value));
+    }
+    let all = receiver.len(&rt);
+    for _ in 0..30 {
+        drop(receiver.receive(&rt));
+    }
+    // 34 wait in the first segment, and 36 in the second.
+    let most = (sender.try_len(), receiver.len(&rt));
+    for _ in 0..50 {
+        drop(receiver.receive(&rt));
+    }
+    let few = (sender.len(&rt), receiver.try_len());
+    assert!(rt; none == (0, Some(0)) && all == 100);
+    assert!(rt; most == (Some(70), 70) && few == (20, Some(20)));
     Ok(())
 }

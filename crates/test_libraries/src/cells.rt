@@ -1,10 +1,11 @@
 //! Calls of a pool of linked cells: worked examples.
 
+use crate::compare::same;
 use crate::pools::PoolCall::{
     Finish as Ends, Item, Look as Looks, Offer as Offers, Push as Pushes,
 };
 use crate::pools::{Calls, PoolCall};
-use mb_cells::{Cursor, Finish, Look, Offer, Push};
+use mb_cells::{Cursor, Finish, Lane, Look, Offer, Push, Word};
 use std::alloc::{Allocator, Global};
 use std::process::Abort;
 
@@ -65,6 +66,24 @@ fn two_lanes_draw_from_one_pool(rt: HostRuntime) {
             Item(3, 21),
         ],
     );
+}
+
+// A producer's place, from its first offer to the end mark.
+#[test]
+fn a_lane_names_its_accesses(rt: HostRuntime) {
+    let mut lane = Lane::new();
+    let refusals = (lane.offer_refusal(), lane.finish_refusal());
+    let offered = (lane.offered(1, 8, 0), lane.next_push(0), lane.pushed());
+    let stored = (lane.next_push(0), lane.pushed(), lane.next_link(0));
+    lane.finished();
+    same(
+        &rt,
+        &(refusals, lane.offer_refusal()),
+        &((None, None), Some(Offer::Closed)),
+    );
+    let item = (Offer::Cell(0), Some((Word::Item(0), 8)), Push::Item(0));
+    let link = (Some((Word::Head(0), 1)), Push::Link(0), Word::Link(0));
+    same(&rt, &(offered, stored), &(item, link));
 }
 
 // Lane 1 finds no cell. It returns `Full` each time, and may still end. Lane 0 may not, since its item is not put.

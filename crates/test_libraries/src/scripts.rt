@@ -1,7 +1,13 @@
 //! Replay scripts: one that is read. Those that are refused are in `test_program`.
 
 use crate::compare::{same, same_at};
-use mb_script::{Fault, parse};
+use mb_claim::Shape;
+use mb_deciding::{Act, Reg};
+use mb_quorum::TableName;
+use mb_script::{
+    Fault, LineWords, ascii_text, has_empty_word, numbers, parse, push_act, shape_of_word,
+    split_line, table_named,
+};
 use mb_world::Event;
 use std::alloc::Allocator;
 use std::process::Abort;
@@ -28,6 +34,43 @@ fn a_script_is_read(rt: HostRuntime) {
         },
     ];
     assert!(rt; script.events.as_slice() == events.as_slice());
+}
+
+// Lines and words, and what some words name.
+#[test]
+fn lines_and_words(rt: HostRuntime) {
+    let both = Shape {
+        fast: true,
+        last: true,
+    };
+    let lines = (
+        ascii_text("push 1\n".as_bytes()),
+        split_line("push 1\nfinish 0"),
+    );
+    let words = LineWords::of_line("push 1").expect(&rt, "no words");
+    let spelled = numbers(rt.alloc(), Some("1 20")).expect(&rt, "no memory");
+    let spelled = spelled.expect(&rt, "no numbers");
+    let named = (table_named("bits"), shape_of_word("fastlast"));
+    same(
+        &rt,
+        &lines,
+        &(Some("push 1\n"), Some(("push 1", "finish 0"))),
+    );
+    same(&rt, &named, &(Some(TableName::Bits), Some(both)));
+    let lists = (words.as_slice(), spelled.as_slice());
+    same(&rt, &lists, &(["push", "1"].as_slice(), [1, 20].as_slice()));
+    assert!(rt; has_empty_word("push  1"));
+}
+
+#[test]
+fn an_act_is_written(rt: HostRuntime) {
+    let load = Act::Load {
+        reg: Reg::Value,
+        value: 1,
+    };
+    let mut text = String::new(rt.alloc());
+    push_act(&mut text, load).expect(&rt, "no memory");
+    same(&rt, &text.as_str(), &"load c 1");
 }
 
 /// How many events the script of a text has, or its fault.

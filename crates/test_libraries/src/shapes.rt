@@ -22,6 +22,9 @@ fn words_of_both_and_three_pairs(rt: HostRuntime) {
         layout.address(2, 5, Reg::Quorum(1)),
         layout.address(2, 8, Reg::Last),
     );
+    // Two cells come first, and a register after the proposal and the registers before it.
+    let begins = (layout.begin(2), Layout::place_in_object(Reg::Quorum(1)));
+    same(&rt, &(begins, layout.copy().is_alone()), &((38, 2), false));
     // A claim has two ratifiers of 1 + 2 + 1 accesses at most, and one exchange, beside the 27 of the pairs.
     same(
         &rt,

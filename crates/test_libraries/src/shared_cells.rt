@@ -99,8 +99,9 @@ fn put_one_item<A: Allocator + Drop>(
         table.item(reader, k),
         table.finish(lane),
         table.look(reader, Cursor::past(k)),
+        lane.has_ended(),
     );
-    same(rt, &told, &(0, 8, Finish::Ended, Look::Ended));
+    same(rt, &told, &(0, 8, Finish::Ended, Look::Ended, true));
 }
 
 /// Issues the only lane, once, and a reader. One item is put and read, and both seats are returned.

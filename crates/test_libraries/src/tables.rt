@@ -1,7 +1,8 @@
 //! The registers, the values and the quorums of each kind of quorum table.
 
 use crate::compare::same;
-use mb_quorum::{BadValues, Bits, Middle, Quorums, Table, TableName, Unary};
+use mb_deciding::spread;
+use mb_quorum::{BadValues, Bits, Middle, Quorums, Table, TableName, Unary, checked_values, width};
 
 /// The write quorum and the read quorum of a value, through the trait.
 fn quorums<Q: Quorums>(table: &Q, v: u32) -> Option<(u64, u64)> {
@@ -64,6 +65,13 @@ fn middle_tables(rt: HostRuntime) {
         let table = Middle::new(*m).expect(&rt, "no table");
         same(&rt, &shape(&table, *v), want);
     }
+}
+
+// Five values and eight are told apart by three bits, so a conciliator's last attempt is the fourth after the first.
+#[test]
+fn widths_of_values(rt: HostRuntime) {
+    let told = (width(5), width(8), spread(8), checked_values(64));
+    same(&rt, &told, &(3, 3, 4, Ok(64)));
 }
 
 #[test]

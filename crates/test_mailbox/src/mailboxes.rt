@@ -3,8 +3,8 @@
 use crate::compare::same;
 use crate::scenes::{play, plays, plays_in};
 use crate::trial::Trial;
-use crate::trials::{ends, new_trial};
-use mb_mailbox::GatherFault;
+use crate::trials::{ends, new_trial, reads};
+use mb_mailbox::{GatherFault, Mailbox, consumers_left, lanes_left};
 use mb_quorum::TableName;
 use mb_world::Setup;
 use std::alloc::Allocator;
@@ -202,4 +202,27 @@ fn a_mailbox_of_a_million_cells_is_gathered(rt: HostRuntime) {
     let lines = "producer: given\nconsumer: given\nput 0 7: linked\npoll 0 0 100: took 7\n";
     let report = "lane 0 open put 7\nleft 0\ndiary 0 0 took 7\n";
     plays_in(&rt, setup, lines, report);
+}
+
+// The mailbox has a producer and two consumers, of which nobody is issued.
+#[test]
+fn a_draft_is_gathered(rt: HostRuntime) {
+    let setup = Setup::new(1, 2, 1, 1, TableName::Bits).expect(&rt, "no setup");
+    let Ok((mailbox, hub)) = Mailbox::new(rt.alloc(), setup) else {
+        panic!(rt; "no mailbox")
+    };
+    let left = (
+        lanes_left(&mailbox, &hub),
+        consumers_left(&mailbox, &hub),
+        mailbox.missing(&hub),
+    );
+    same(&rt, &left, &(1, 2, (0, 0)));
+    let Ok(draft) = mailbox.draft(rt.alloc(), hub) else {
+        panic!(rt; "no draft")
+    };
+    let Ok(draft) = mailbox.draft(rt.alloc(), draft.undone()) else {
+        panic!(rt; "no draft")
+    };
+    let report = mailbox.gather_with(draft);
+    reads(&rt, rt.alloc(), report, NOBODY_IS_GIVEN.2);
 }

@@ -3,7 +3,8 @@
 use crate::compare::{same, same_at};
 use crate::devices::{NarrowWriter, SlowReader};
 use crate::examples::ratifiers::LATE_INPUT;
-use mb_program::{RatifyFault, ratify_text};
+use mb_program::{RatifyFault, ratify_text, read_script};
+use mb_quorum::TableName;
 use mb_script::CountingIo;
 use std::alloc::Allocator;
 
@@ -17,6 +18,19 @@ pub(crate) fn ratified<R: AllocGlobal, A: Allocator + Copy>(
     let mut writer = CountingIo::new(Vec::<u8>::new(rt.alloc()));
     let result = ratify_text(alloc, &mut reader, &mut writer);
     (result, writer.device)
+}
+
+#[test]
+fn a_script_is_read(rt: HostRuntime) {
+    let bytes = LATE_INPUT.input.as_bytes();
+    let script = read_script(rt.alloc(), bytes).expect(&rt, "a script that is refused");
+    same(&rt, &(script.table, script.values), &(TableName::Unary, 2));
+    let lists = (script.inputs.as_slice(), script.turns.as_slice());
+    same(
+        &rt,
+        &lists,
+        &([0, 1].as_slice(), [0, 0, 0, 0, 1, 1, 1].as_slice()),
+    );
 }
 
 /// A case has a script, and its fault.

@@ -4,7 +4,7 @@ use crate::compare::same;
 use crate::devices::NarrowWriter;
 use crate::examples::runs::TWO_ITEMS;
 use mb_claim::Shape;
-use mb_program::{Options, RunFault, run_threads, source_of};
+use mb_program::{Options, RunFault, run_threads, source_of, workload_of};
 use mb_script::CountingIo;
 use rand_core::Rng;
 use std::alloc::Allocator;
@@ -66,6 +66,17 @@ const WORDS: &[(u64, u32, u64)] = &[
     (1, 0, 0x61a9_4a49_a0e9_5ecf),
     (u64::MAX, 0, 0xb44e_8639_2271_48c7),
 ];
+
+// The report of the example has the same items.
+#[test]
+fn two_items_are_put(rt: HostRuntime) {
+    let load = workload_of(rt.alloc(), ALONE).expect(&rt, "no memory");
+    let sizes = (load.lists.len(), load.budget, load.rngs.len());
+    same(&rt, &sizes, &(1, 64, 1));
+    for list in &load.lists {
+        same(&rt, &list.as_slice(), &[0, 1].as_slice());
+    }
+}
 
 #[test]
 fn sources_have_known_words(rt: HostRuntime) {

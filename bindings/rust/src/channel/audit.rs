@@ -1,11 +1,10 @@
 //! Who sent what, who took it, and what is left.
 use super::errors::written;
 use super::system::{Panics, lock};
-use crate::ffi::Word;
-use crate::{Mailbox, Note, Report};
 use std::collections::{BTreeMap, VecDeque};
 use std::fmt;
-use std::sync::{Arc, Mutex};
+use std::mem;
+use std::sync::{Arc, Mutex, MutexGuard};
 
 /// So many accounts that nobody asked for are kept at most, the newest ones.
 const KEPT: usize = 16;
@@ -13,17 +12,8 @@ const KEPT: usize = 16;
 /// Stands in place of a sender's number if a job gave the value back.
 pub(super) const GIVEN_BACK: u64 = u64::MAX;
 
-/// Who put what into a segment, and who took what from it. The rest is in the report of its mailbox.
-#[derive(Default)]
-pub(super) struct Logs {
-    /// The sender of each place.
-    pub(super) senders: Vec<u64>,
-    /// The number of each consumer, with the receiver of each place that it took.
-    pub(super) takers: Vec<(usize, Vec<u64>)>,
-}
-
-/// What became of the values of one segment. [`Audit::accounts`] hands it out. Its `Debug` shows how many values are left,
-/// but not the values. So `T` needs no `Debug`.
+/// What became of some values that follow one another. [`Audit::accounts`] hands it out. Its `Debug` shows how many values
+/// are left, but not the values. So `T` needs no `Debug`.
 #[derive(Clone, PartialEq, Eq)]
 #[non_exhaustive]
 pub struct Account<T> {
@@ -43,8 +33,8 @@ pub struct Fate {
     pub receiver: Option<u64>,
 }
 
-/// The counts of all finished segments, also of those whose accounts were handed out. There is an entry for each end that
-/// sent or took a value that is counted.
+/// The counts of all values that were taken or are left. There is an entry for each end that sent or took a value that is
+/// counted.
 #[derive(Clone, PartialEq, Eq, Default, Debug)]
 #[non_exhaustive]
 pub struct Totals {
@@ -56,15 +46,16 @@ pub struct Totals {
     pub taken: BTreeMap<u64, u64>,
     /// How many values nobody took.
     pub left: u64,
-    /// How many segments have no account, for lack of memory. What was in them is in none of the counts.
+    /// How many values are in no account, for lack of memory. They are in the other counts.
     pub unknown: u64,
 }
 
 /// The accounts of a channel. [`Builder::audited`](super::Builder::audited) makes it.
 ///
-/// An account is made when a segment is over and no end stands in it any more, or when the last receiver is dropped.
-/// They come in the order of their values. Of those that nobody asked for the newest 16 are kept, and older ones are in
-/// the [totals](Audit::totals) alone. Each call takes the lock of the accounts.
+/// An account is made when 1,024 values were taken since the last one ([`Builder::account`](super::Builder::account) sets
+/// another number), or when the last receiver is dropped. They come in the order of their values. Of those that nobody
+/// asked for the newest 16 are kept, and older ones are in the [totals](Audit::totals) alone. Each call takes the lock of
+/// the accounts.
 pub struct Audit<T> {
     ledger: Arc<Ledger<T>>,
 }
@@ -74,15 +65,24 @@ pub(super) struct Ledger<T> {
 }
 
 struct Book<T> {
+    /// What became of the values of the account that is not made yet.
+    fates: Vec<Fate>,
+    /// How many values go into an account.
+    each: usize,
     accounts: VecDeque<Account<T>>,
     /// How many accounts are kept at most: 0 after the audit was dropped.
     kept: usize,
     totals: Totals,
 }
 
+/// A book that nobody else writes.
+pub(super) struct Open<'a, T>(MutexGuard<'a, Book<T>>);
+
 impl<T> Audit<T> {
-    pub(super) fn new() -> (Audit<T>, Arc<Ledger<T>>) {
+    pub(super) fn new(each: usize) -> (Audit<T>, Arc<Ledger<T>>) {
         let book = Mutex::new(Book {
+            fates: Vec::new(),
+            each,
             accounts: VecDeque::new(),
             kept: KEPT,
             totals: Totals::default(),
@@ -127,39 +127,55 @@ impl<T> Ledger<T> {
         lock(&self.book).totals.add(Fate::new(sender, receiver));
     }
 
-    /// Makes the account of a mailbox to which all producers and consumers were returned.
-    pub(super) fn close(&self, mailbox: Mailbox<Word>, logs: &Logs, left: Vec<T>) {
-        let Ok(report) = mailbox.gather() else {
-            lock(&self.book).totals.unknown += 1;
-            let fates = Vec::new();
-            return drop_left([Account { fates, left }]);
-        };
-        let fates = fates(&report, logs);
+    /// Opens the book, for values that are taken in their order.
+    pub(super) fn open(&self) -> Open<'_, T> {
+        Open(lock(&self.book))
+    }
+
+    /// Makes the last account, with what is left and the numbers of its senders.
+    pub(super) fn close(&self, left: Vec<(T, u64)>) {
         let mut book = lock(&self.book);
-        for fate in &fates {
-            book.totals.add(*fate);
+        let (left, senders): (Vec<_>, Vec<_>) = left.into_iter().unzip();
+        for sender in senders {
+            book.add(Fate::new(sender, None));
         }
-        book.accounts.push_back(Account { fates, left });
-        let is_over = book.accounts.len() > book.kept;
-        let oldest = is_over.then(|| book.accounts.pop_front());
+        let old = book.make_account(left);
         drop(book);
-        drop_left(oldest.flatten());
+        drop_left(old);
     }
 }
 
-/// The report says which consumer took which place, and the logs say which sender and receiver that was.
-fn fates(report: &Report<Word>, logs: &Logs) -> Vec<Fate> {
-    let senders = logs.senders.iter();
-    let mut fates: Vec<_> = senders.map(|it| Fate::new(*it, None)).collect();
-    for (consumer, takers) in &logs.takers {
-        let notes = report.diary(*consumer, 0).map(|it| it.notes.iter());
-        let places = (0..).zip(notes.unwrap_or_default());
-        let taken = places.filter(|(_, note)| **note == Note::Took);
-        for ((place, _), taker) in taken.zip(takers) {
-            fates[place].receiver = Some(*taker);
+impl<T> Book<T> {
+    fn add(&mut self, fate: Fate) {
+        self.totals.add(fate);
+        match self.fates.try_reserve(1) {
+            Ok(()) => self.fates.push(fate),
+            Err(_) => self.totals.unknown += 1,
         }
     }
-    fates
+
+    /// Makes an account of what was written, unless that is nothing. Returns an old one for which there is no room.
+    fn make_account(&mut self, left: Vec<T>) -> Option<Account<T>> {
+        if self.fates.is_empty() && left.is_empty() {
+            return None;
+        }
+        let fates = mem::take(&mut self.fates);
+        self.accounts.push_back(Account { fates, left });
+        let is_over = self.accounts.len() > self.kept;
+        is_over.then(|| self.accounts.pop_front()).flatten()
+    }
+}
+
+impl<T> Open<'_, T> {
+    /// Writes who sent and who took a value.
+    pub(super) fn write(mut self, sender: u64, receiver: u64) {
+        self.0.add(Fate::new(sender, Some(receiver)));
+        if self.0.fates.len() >= self.0.each {
+            let old = self.0.make_account(Vec::new());
+            drop(self);
+            drop_left(old);
+        }
+    }
 }
 
 impl Fate {

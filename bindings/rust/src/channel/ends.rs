@@ -15,8 +15,8 @@ macro_rules! ends {
                 self.number
             }
 
-            /// How many values wait, at one moment of this call. A value that is just being received may count. With bound
-            /// 0 only those count that jobs gave back, or that were left for a future that was dropped.
+            /// How many values wait, at one moment of this call. For that it lets all ends stand still. With bound 0 only those
+            /// count that jobs gave back, or that were left for a future that was dropped.
             ///
             /// ```
             /// let (sender, receiver) = hazbultra::channel::unbounded();
@@ -107,7 +107,7 @@ macro_rules! ends {
             /// Closes the channel: no value is sent after this, and sends that wait get their values back. Receivers get
             /// what is left, and then an error. Returns whether the channel was open, so that values could be sent.
             ///
-            /// It takes the lock of the lane, and those of the lists of sleepers.
+            /// It takes the lock under which ends are made, and those of the lists of sleepers.
             ///
             /// ```
             /// use hazbultra::channel::{unbounded, RecvError, SendError};

@@ -1,14 +1,14 @@
 //! The errors of a channel, with the names that `crossbeam-channel` has for its own.
 use std::error::Error;
 
-/// The channel is closed, all receivers are gone, or there is no memory for a segment. The field is the value not sent.
+/// The channel is closed, all receivers are gone, or there is no memory for it. The field is the value not sent.
 #[derive(Clone, Copy, PartialEq, Eq)]
 pub struct SendError<T>(pub T);
 
 /// Why a value was not sent at once. The value is in the error.
 #[derive(Clone, Copy, PartialEq, Eq)]
 pub enum TrySendError<T> {
-    /// There is no room, with bound 0 no receiver waits, or there is no memory for a segment.
+    /// There is no room, with bound 0 no receiver waits, or there is no memory for it.
     Full(T),
     /// The channel is closed, or all receivers are gone.
     Disconnected(T),
@@ -17,7 +17,7 @@ pub enum TrySendError<T> {
 /// Why a value was not sent in time. The value is in the error.
 #[derive(Clone, Copy, PartialEq, Eq)]
 pub enum SendTimeoutError<T> {
-    /// There was no room until then, with bound 0 no receiver, or there is no memory for a segment.
+    /// There was no room until then, with bound 0 no receiver, or there is no memory for it.
     Timeout(T),
     /// The channel is closed, or all receivers are gone.
     Disconnected(T),
@@ -30,7 +30,7 @@ pub struct RecvError;
 /// Why no value was received at once.
 #[derive(Clone, Copy, PartialEq, Eq, Debug)]
 pub enum TryRecvError {
-    /// Nothing is there so far, or there is no memory to look at a segment.
+    /// Nothing is there so far.
     Empty,
     /// Nothing is left, and nothing comes.
     Disconnected,

@@ -126,12 +126,6 @@ impl<'a, T> Waiting<'a, T> {
         };
         let result = match list.poll(&mut self.place, waker, look) {
             Poll::Pending | Poll::Ready(Look::Nothing) => return Poll::Pending,
-            Poll::Ready(Look::NoMemory) => {
-                // (a value is there, but no memory to take it: so another receiver shall try, and this one again)
-                shared.empty.wake_one();
-                waker.wake_by_ref();
-                return Poll::Pending;
-            }
             Poll::Ready(Look::Took(value)) => Ok(value),
             Poll::Ready(Look::Over) => {
                 shared.abandon(ticket);

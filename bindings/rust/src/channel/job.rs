@@ -11,8 +11,8 @@ use std::sync::Arc;
 /// While a job is open the channel does not end: receivers sleep, since the value may come back. So a thread that holds a
 /// job, and waits on the same channel for its end, waits for ever.
 ///
-/// The value comes back as the last one, also if the channel is full. If there is no memory for a segment, or no receiver
-/// is left, it is dropped.
+/// The value comes back as the last one, also if the channel is full. If there is no memory for it, or no receiver is left,
+/// it is dropped.
 ///
 /// `catch_unwind` asks that what its closure borrows is `UnwindSafe`, since a panic may leave it half changed. Boxed closures
 /// and values with cells are not. For these wrap the closure in [`AssertUnwindSafe`](std::panic::AssertUnwindSafe). What the
@@ -71,7 +71,7 @@ impl<T> DerefMut for Job<T> {
 impl<T> Drop for Job<T> {
     fn drop(&mut self) {
         let value = self.value.take();
-        let refused = value.and_then(|value| self.shared.put(value, GIVEN_BACK).err());
+        let refused = value.and_then(|value| self.shared.put(None, value, GIVEN_BACK).err());
         self.shared.end_job();
         drop(refused); // (last, since the drop of the value may panic)
     }

@@ -1,7 +1,7 @@
 //! A channel that takes any number of values, and whose receivers sleep until one comes.
 //!
-//! Each value goes to at most one receiver, by the proved claims of the mailbox. Its calls are named as in
-//! `crossbeam-channel`, and do the same.
+//! Its core is proved: the order of the values, and who takes which. Its calls are named as in `crossbeam-channel`, and do the
+//! same.
 //!
 //! ```
 //! use hazbultra::channel;
@@ -29,17 +29,18 @@
 //!   room only if there was a moment, during its call, at which as many values waited as the bound allows.
 //! - No value waits while a receiver sleeps. A wake-up that its receiver does not use goes to the next one: after a
 //!   timeout, a dropped future, or a waker that panics.
-//! - Memory is in proportion to the values that wait. A receiver that does nothing keeps at most one segment for long.
+//! - Memory is in proportion to the values that wait. An end that does nothing keeps the memory of later values only until
+//!   some thousand of them are received.
 //! - What takes a lock is said at [`Sender`] and [`Receiver`].
 //!
 //! # How it is built
 //!
-//! The values stand in a *chain*: segment after segment, each a [`Mailbox`](crate::Mailbox) with one lane. Senders put into
-//! the last one, one at a time. Each of the first 64 receivers has a consumer of its own in the segment that it stands in. A
-//! claim is one compare-exchange. A value of up to eight bytes is the item itself. Each other one stands in a slot, whose
-//! number is the item. So no value is boxed. A table in the crate's README says what is proved, and what is tested.
+//! The values stand in a *row*, which is a channel of the proved archive. The archive decides in which order they stand, who
+//! takes which, and when nothing is left. It never waits. This crate sleeps, wakes, and keeps the bound, the jobs and the
+//! audit. A value of up to eight bytes goes as it is. Each other one stands in a slot, whose address goes. So no value is
+//! boxed. A table in the crate's README says what is proved, and what is tested.
 //!
-//! A channel of bound 0 has no chain: each value goes from hand to hand, under one lock.
+//! A channel of bound 0 has no row: each value goes from hand to hand, under one lock.
 mod audit;
 mod ends;
 mod errors;
@@ -110,7 +111,7 @@ pub fn bounded<T>(bound: usize) -> (Sender<T>, Receiver<T>) {
 /// assert_eq!(receiver.recv(), Ok("a letter"));
 /// drop(receiver);
 ///
-/// let [account] = &audit.accounts()[..] else { panic!("one segment was begun") };
+/// let [account] = &audit.accounts()[..] else { panic!("all of it is in one account") };
 /// assert_eq!(account.fates[0].sender, Some(sender.number()));
 /// assert_eq!(audit.totals().taken.values().sum::<u64>(), 1);
 /// ```
@@ -118,7 +119,7 @@ pub fn bounded<T>(bound: usize) -> (Sender<T>, Receiver<T>) {
 #[must_use = "it makes no channel until `build` or `audited` is called"]
 pub struct Builder {
     bound: Option<usize>,
-    cells: Option<usize>,
+    account: Option<usize>,
 }
 
 impl Builder {
@@ -135,16 +136,15 @@ impl Builder {
         }
     }
 
-    /// So many values go into each segment, 1 to 2^24. By default 32 go into the first, and up to 4,096 into later ones.
-    /// Large values get smaller segments.
+    /// So many values go into each account of an [audit](Builder::audited), 1 or more. By default it is 1,024.
     ///
     /// # Panics
-    /// The number is out of range.
+    /// The number is 0.
     #[track_caller]
-    pub fn cells(self, cells: usize) -> Builder {
-        assert!((1..=1 << 24).contains(&cells), "1 to 2^24 cells");
+    pub fn account(self, values: usize) -> Builder {
+        assert!(values > 0, "1 value or more");
         Builder {
-            cells: Some(cells),
+            account: Some(values),
             ..self
         }
     }
@@ -155,11 +155,11 @@ impl Builder {
         self.make(None)
     }
 
-    /// Makes the channel with its audit, which takes some 24 bytes more for each value of a segment. With bound 0 there
-    /// are no segments, and so no accounts, but [totals](Audit::totals).
+    /// Makes the channel with its audit. Each value is in a box, with the number of its sender, until it is taken. Sends are
+    /// one after the other, and so are receives. With bound 0 there are no accounts, but [totals](Audit::totals).
     #[must_use]
     pub fn audited<T>(self) -> (Sender<T>, Receiver<T>, Audit<T>) {
-        let (audit, ledger) = Audit::new();
+        let (audit, ledger) = Audit::new(self.account.unwrap_or(1024));
         let (sender, receiver) = self.make(Some(ledger));
         (sender, receiver, audit)
     }
@@ -167,7 +167,6 @@ impl Builder {
     fn make<T>(self, audit: Option<Arc<audit::Ledger<T>>>) -> (Sender<T>, Receiver<T>) {
         let shared = Arc::new(Shared::new(Plan {
             bound: self.bound,
-            cells: self.cells,
             audit,
         }));
         (Sender::new(Arc::clone(&shared)), Receiver::new(shared))

@@ -36,11 +36,11 @@ impl<T> Parcel<T> {
     pub(super) fn look(&mut self, shared: &Shared<T>, who: u64) -> Option<Result<(), Refused<T>>> {
         match mem::replace(self, Parcel::Gone) {
             // (it takes no lock if there is no room)
-            Parcel::Here(value) if shared.is_full() && !shared.is_closed() => {
+            Parcel::Here(value) if shared.store.seems_full() && !shared.is_closed() => {
                 *self = Parcel::Here(value);
                 None
             }
-            Parcel::Here(value) => match shared.put(value, who) {
+            Parcel::Here(value) => match shared.put(None, value, who) {
                 Err(Refused::Full(value)) => {
                     *self = Parcel::Here(value);
                     None

@@ -5,33 +5,28 @@ use super::future::{JobFuture, RecvFuture};
 use super::iter::{Drain, Iter, TryIter};
 use super::job::Job;
 use super::shared::Shared;
-use super::store::{Look, Seat, Ticket};
+use super::store::{Chair, Look, Ticket};
 use std::borrow::Cow;
 use std::panic::{RefUnwindSafe, UnwindSafe};
 use std::sync::Arc;
-use std::thread;
 use std::time::{Duration, Instant};
 
 /// Receives values. A clone of it is another receiver, and each value goes to at most one receiver.
 ///
-/// **Locks of a receive.** Each of the first 64 receivers has a seat of its own, and further ones share these. A receive
-/// holds the lock of its seat, and waits for no other seat. So it waits only for threads that use the same receiver or
-/// seat, and for the few steps in which somebody moves the seat on or looks for room. A receive that comes to a new
-/// segment takes the lock under which the channel keeps the first one, and those under which consumers are issued.
-/// With an audit it also takes those of the segment's log and of the accounts. The first receive to leave a segment takes
-/// the lock of the list of seats, and tries that of each. A receive that sleeps, or makes room for a sender that does,
-/// takes the lock of the list of sleepers. With bound 0 each call takes the channel's one lock.
+/// **Locks of a receive.** A receiver is used by one thread at a time: a receive waits for others that use the same
+/// receiver, for a value that is just being sent, and for the few steps in which somebody adds a segment or leaves one. At
+/// these locks a thread does not sleep, but yields. With an audit, receives are one after the other, under the lock of the
+/// accounts. After each 1,024 values that it received, a receiver takes the locks under which ends are made and listed. A
+/// receive that sleeps, or makes room for a sender that does, takes the lock of the list of sleepers. With bound 0 each
+/// call takes the channel's one lock.
 ///
-/// A clone takes the lock of the list of seats. The drop of the last receiver takes those of the lane and of all seats, one
-/// after the other.
+/// The first receive of a receiver and its drop take the locks under which ends are made and listed. The drop of the last
+/// receiver drops what is left.
 pub struct Receiver<T> {
     pub(super) shared: Arc<Shared<T>>,
-    seat: Arc<Seat<T>>,
+    chair: Chair<T>,
     number: u64,
 }
-
-/// How long a receiver that got no memory sleeps before it tries again.
-const PAUSE: Duration = Duration::from_millis(1);
 
 impl<T> Receiver<T> {
     pub(super) fn new(shared: Arc<Shared<T>>) -> Receiver<T> {
@@ -47,7 +42,7 @@ impl<T> Receiver<T> {
 
     fn sit(shared: Arc<Shared<T>>, number: u64) -> Receiver<T> {
         Receiver {
-            seat: shared.store.seat(),
+            chair: Chair::new(),
             shared,
             number,
         }
@@ -55,22 +50,21 @@ impl<T> Receiver<T> {
 
     #[inline]
     pub(super) fn take(&self, ticket: Option<&Ticket>) -> Look<T> {
-        self.shared.take(&self.seat, self.number, ticket)
+        self.shared.take(&self.chair, self.number, ticket)
     }
 
     pub(super) fn take_job(&self, ticket: Option<&Ticket>) -> Look<Job<T>> {
-        match self.shared.take_job(&self.seat, self.number, ticket) {
+        match self.shared.take_job(&self.chair, self.number, ticket) {
             Look::Took(value) => Look::Took(Job::new(value, Arc::clone(&self.shared))),
             Look::Nothing => Look::Nothing,
             Look::Over => Look::Over,
-            Look::NoMemory => Look::NoMemory,
         }
     }
 
     /// Receives a value if one is there now. It never sleeps, but for [the locks of a receive](Receiver).
     ///
     /// # Errors
-    /// Nothing is there, there is no memory to look at a segment, or nothing comes any more.
+    /// Nothing is there, or nothing comes any more.
     ///
     /// ```
     /// use hazbultra::channel::{unbounded, TryRecvError};
@@ -87,8 +81,7 @@ impl<T> Receiver<T> {
         now(self.take(None))
     }
 
-    /// Receives a value. It sleeps until one comes. If there is no memory for its place in a segment, it tries again each
-    /// millisecond. [Which locks it takes](Receiver).
+    /// Receives a value. It sleeps until one comes. [Which locks it takes](Receiver).
     ///
     /// # Errors
     /// Nothing is left, and nothing comes any more.
@@ -252,7 +245,7 @@ impl<T> Receiver<T> {
     /// Receives a value as a job if one is there now. It never sleeps, but for [the locks of a receive](Receiver).
     ///
     /// # Errors
-    /// Nothing is there, there is no memory to look at a segment, or nothing comes any more.
+    /// Nothing is there, or nothing comes any more.
     ///
     /// ```
     /// let (sender, receiver) = hazbultra::channel::unbounded();
@@ -294,11 +287,6 @@ impl<T> Receiver<T> {
                 Some(Look::Over) => {
                     shared.abandon(ticket);
                     return Err(RecvTimeoutError::Disconnected);
-                }
-                Some(Look::NoMemory) => {
-                    // (a value is there, but no memory to take it: so another receiver shall try)
-                    shared.empty.wake_one();
-                    thread::sleep(PAUSE);
                 }
                 Some(Look::Nothing) | None => {}
             }
@@ -352,7 +340,7 @@ fn now<G>(look: Look<G>) -> Result<G, TryRecvError> {
     match look {
         Look::Took(value) => Ok(value),
         Look::Over => Err(TryRecvError::Disconnected),
-        Look::Nothing | Look::NoMemory => Err(TryRecvError::Empty),
+        Look::Nothing => Err(TryRecvError::Empty),
     }
 }
 
@@ -360,6 +348,7 @@ ends!(Receiver, WeakReceiver);
 
 impl<T> Drop for Receiver<T> {
     fn drop(&mut self) {
+        self.shared.store.leave_chair(&self.chair);
         self.shared.drop_receiver();
     }
 }

@@ -3,7 +3,7 @@ use super::ends::ends;
 use super::errors::{SendError, SendTimeoutError, TrySendError, written};
 use super::future::SendFuture;
 use super::shared::Shared;
-use super::store::Refused;
+use super::store::{Refused, Stand};
 use std::borrow::Cow;
 use std::panic::{RefUnwindSafe, UnwindSafe};
 use std::sync::Arc;
@@ -13,33 +13,45 @@ use std::time::{Duration, Instant};
 ///
 /// If one send returns before another one begins, in any threads, its value is received first.
 ///
-/// **Locks of a send.** A send holds the lock of the channel's lane for one put. So it waits for other senders, and for a job
-/// that comes back. A send that begins a segment takes memory under that lock, and the first one takes the lock under which
-/// receivers find the first segment. A send that finds no room takes the lock of each receiver's seat under it, one after
-/// the other. If a receiver sleeps, or this sender has to, the send takes the lock of the list of sleepers. With bound 0
-/// each call takes the channel's one lock.
+/// **Locks of a send.** A sender is used by one thread at a time: a send waits for others that use the same sender. With a
+/// bound or an audit, that holds for all senders together, and for jobs that come back. So it does for the first seventeen
+/// values of each sender. At these locks a thread does not sleep, but yields. A send may also wait for the few steps in
+/// which somebody adds the next segment, or takes memory for it. A send that finds no room waits for the receives under
+/// way. If a receiver sleeps, or this sender has to, the send takes the lock of the list of sleepers. With bound 0 each
+/// call takes the channel's one lock.
+///
+/// The seventeenth send of a sender and its drop take the locks under which ends are made and listed.
 pub struct Sender<T> {
     pub(super) shared: Arc<Shared<T>>,
+    stand: Stand<T>,
     pub(super) number: u64,
 }
 
 impl<T> Sender<T> {
     pub(super) fn new(shared: Arc<Shared<T>>) -> Sender<T> {
         let number = shared.senders.add();
-        Sender { shared, number }
+        Sender::stand(shared, number)
     }
 
     /// A further sender, if any is there.
     fn join(shared: Arc<Shared<T>>) -> Option<Sender<T>> {
         let number = shared.senders.add_to_others()?;
-        Some(Sender { shared, number })
+        Some(Sender::stand(shared, number))
+    }
+
+    fn stand(shared: Arc<Shared<T>>, number: u64) -> Sender<T> {
+        Sender {
+            stand: Stand::default(),
+            shared,
+            number,
+        }
     }
 
     /// Sends a value. If the channel is full, it sleeps until there is room. If the bound is 0, it sleeps until a receiver
     /// waits for the value or takes it. [Which locks it takes](Sender).
     ///
     /// # Errors
-    /// The channel is closed, all receivers are gone, or there is no memory for a segment. The value is in the error.
+    /// The channel is closed, all receivers are gone, or there is no memory for it. The value is in the error.
     ///
     /// ```
     /// use hazbultra::channel::{unbounded, SendError};
@@ -59,7 +71,7 @@ impl<T> Sender<T> {
     /// [the locks of a send](Sender).
     ///
     /// # Errors
-    /// The channel is full or closed, all receivers are gone, or there is no memory for a segment. The value is in the error.
+    /// The channel is full or closed, all receivers are gone, or there is no memory for it. The value is in the error.
     ///
     /// ```
     /// use hazbultra::channel::{bounded, TrySendError};
@@ -178,7 +190,7 @@ impl<T> Sender<T> {
 
     #[inline]
     pub(super) fn put(&self, value: T) -> Result<(), Refused<T>> {
-        self.shared.put(value, self.number)
+        self.shared.put(Some(&self.stand), value, self.number)
     }
 }
 
@@ -186,6 +198,7 @@ ends!(Sender, WeakSender);
 
 impl<T> Drop for Sender<T> {
     fn drop(&mut self) {
+        self.shared.store.leave_stand(&self.stand);
         self.shared.drop_sender();
     }
 }

@@ -1,5 +1,5 @@
 //! What all ends of a channel share.
-use super::store::{Look, Meeting, Plan, Refused, Seat, State, Store, Ticket};
+use super::store::{Chair, Look, Meeting, Plan, Refused, Stand, State, Store, Ticket};
 use super::system::{Line, Waiters};
 use std::sync::atomic::{AtomicU64, AtomicUsize, Ordering::SeqCst};
 
@@ -127,8 +127,13 @@ impl<T> Shared<T> {
 
     /// Puts a value, and wakes a receiver.
     #[inline]
-    pub(super) fn put(&self, value: T, who: u64) -> Result<(), Refused<T>> {
-        if let Err(why) = self.store.put(value, who) {
+    pub(super) fn put(
+        &self,
+        stand: Option<&Stand<T>>,
+        value: T,
+        who: u64,
+    ) -> Result<(), Refused<T>> {
+        if let Err(why) = self.store.put(stand, value, who) {
             if let Refused::NoMemory(_) = why {
                 self.full.wake_one(); // (there is room, perhaps for another one)
             }
@@ -141,8 +146,8 @@ impl<T> Shared<T> {
     /// Takes a value, and wakes a sender that waits for room.
     #[allow(clippy::inline_always, reason = "a call costs a tenth of a receive")]
     #[inline(always)]
-    fn look(&self, seat: &Seat<T>, who: u64, ticket: Option<&Ticket>) -> Look<T> {
-        let look = self.store.take(seat, who, ticket);
+    fn look(&self, chair: &Chair<T>, who: u64, ticket: Option<&Ticket>) -> Look<T> {
+        let look = self.store.take(chair, who, ticket);
         if let Look::Took(_) = look {
             self.full.wake_one();
             if ticket.is_some() && !self.has_senders() {
@@ -154,9 +159,9 @@ impl<T> Shared<T> {
 
     /// Takes a value, or finds that there is none. It may be that nothing comes.
     #[inline]
-    pub(super) fn take(&self, seat: &Seat<T>, who: u64, ticket: Option<&Ticket>) -> Look<T> {
-        match self.look(seat, who, ticket) {
-            Look::Nothing => self.look_again(seat, who, ticket),
+    pub(super) fn take(&self, chair: &Chair<T>, who: u64, ticket: Option<&Ticket>) -> Look<T> {
+        match self.look(chair, who, ticket) {
+            Look::Nothing => self.look_again(chair, who, ticket),
             look => look,
         }
     }
@@ -164,12 +169,12 @@ impl<T> Shared<T> {
     /// What `take` does after a look that found nothing. If nothing more may come, it looks once more. The answer is
     /// `Over` if that look finds nothing either, and no job began or ended meanwhile.
     #[cold]
-    fn look_again(&self, seat: &Seat<T>, who: u64, ticket: Option<&Ticket>) -> Look<T> {
+    fn look_again(&self, chair: &Chair<T>, who: u64, ticket: Option<&Ticket>) -> Look<T> {
         let jobs = self.jobs.0.load();
         if self.may_come() || jobs % BEGUN != 0 {
             return Look::Nothing;
         }
-        match self.look(seat, who, ticket) {
+        match self.look(chair, who, ticket) {
             Look::Nothing if self.jobs.0.load() == jobs => Look::Over,
             look => look,
         }
@@ -177,10 +182,10 @@ impl<T> Shared<T> {
 
     /// What `take` does for a job, which is open if a value is returned. The job counts as open during the look. So
     /// nobody else finds that nothing comes, while this value may come back.
-    pub(super) fn take_job(&self, seat: &Seat<T>, who: u64, ticket: Option<&Ticket>) -> Look<T> {
+    pub(super) fn take_job(&self, chair: &Chair<T>, who: u64, ticket: Option<&Ticket>) -> Look<T> {
         let may_come = self.may_come();
         let before = self.jobs.0.begin();
-        let look = self.look(seat, who, ticket);
+        let look = self.look(chair, who, ticket);
         if let Look::Took(_) = look {
             return look;
         }

@@ -4,7 +4,7 @@ use std::any::Any;
 use std::hint;
 use std::panic::{AssertUnwindSafe, catch_unwind, resume_unwind};
 use std::sync::atomic::{AtomicUsize, Ordering::SeqCst};
-use std::sync::{Mutex, MutexGuard, PoisonError, TryLockError};
+use std::sync::{Mutex, MutexGuard, PoisonError};
 use std::thread::{self, Thread};
 use std::time::Instant;
 
@@ -70,39 +70,6 @@ pub(super) struct Line<T>(pub(super) T);
 #[inline]
 pub(super) fn lock<T>(of: &Mutex<T>) -> MutexGuard<'_, T> {
     of.lock().unwrap_or_else(PoisonError::into_inner)
-}
-
-/// The same for a lock that nobody has for long. Whoever finds it taken does not sleep at once.
-#[inline]
-pub(super) fn lock_soon<T>(of: &Mutex<T>) -> MutexGuard<'_, T> {
-    try_lock(of).unwrap_or_else(|| lock_later(of))
-}
-
-/// Locks it if nobody has it.
-#[inline]
-pub(super) fn try_lock<T>(of: &Mutex<T>) -> Option<MutexGuard<'_, T>> {
-    match of.try_lock() {
-        Ok(guard) => Some(guard),
-        Err(TryLockError::Poisoned(guard)) => Some(guard.into_inner()),
-        Err(TryLockError::WouldBlock) => None,
-    }
-}
-
-/// Pauses before each try, and longer each time. So whoever has the lock may take it several times in a row meanwhile, and
-/// its memory stays with one processor.
-#[cold]
-fn lock_later<T>(of: &Mutex<T>) -> MutexGuard<'_, T> {
-    for turn in 0..8 {
-        if turn < 4 {
-            (0..64 << turn).for_each(|_| hint::spin_loop());
-        } else {
-            thread::yield_now();
-        }
-        if let Some(guard) = try_lock(of) {
-            return guard;
-        }
-    }
-    lock(of)
 }
 
 impl<T> Lock<T> for Mutex<T> {

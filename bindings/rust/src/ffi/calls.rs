@@ -1,4 +1,6 @@
-//! The calls of the archive, as `bindings/c/hazbultra.h` declares them. CI compares the two, name by name.
+//! The calls of the archives, as `bindings/c/hazbultra.h` and `hazbultra_channel.h` declare them. CI compares them, name by
+//! name.
+use super::ends::End;
 use super::handle::Handle;
 use super::word::Word;
 use std::mem::offset_of;
@@ -48,6 +50,15 @@ pub(super) struct Missing {
     pub(super) consumers: u32,
 }
 
+/// What a call of a channel leaves to do.
+#[repr(C)]
+#[derive(Clone, Copy, Default)]
+pub(super) struct Wake {
+    pub(super) place: u64,
+    pub(super) threads: u32,
+    pub(super) owes: u32,
+}
+
 pub(super) const DONE: u32 = 0;
 pub(super) const TOOK: u32 = 1;
 pub(super) const LOST: u32 = 2;
@@ -58,6 +69,8 @@ pub(super) const SPENT: u32 = 6;
 pub(super) const NO_LANE: u32 = 7;
 pub(super) const LINKED: u32 = 8;
 pub(super) const FULL: u32 = 9;
+pub(super) const CLOSED: u32 = 10;
+pub(super) const AGAIN: u32 = 12;
 pub(super) const NO_MEMORY: u32 = 16;
 pub(super) const ALL_GIVEN: u32 = 18;
 pub(super) const MISSING: u32 = 19;
@@ -84,6 +97,9 @@ const _: () = {
     assert!(offset_of!(Diary, notes) == 0 && offset_of!(Diary, begun) == 8);
     assert!(size_of::<Note>() == 16);
     assert!(offset_of!(Note, value) == 0 && offset_of!(Note, kind) == 8);
+    assert!(size_of::<Wake>() == 16);
+    assert!(offset_of!(Wake, place) == 0 && offset_of!(Wake, threads) == 8);
+    assert!(offset_of!(Wake, owes) == 12);
     assert!(size_of::<Missing>() == 8);
     assert!(offset_of!(Missing, producers) == 0 && offset_of!(Missing, consumers) == 4);
 };
@@ -130,6 +146,14 @@ unsafe extern "C" {
         copied: &mut u64,
     ) -> u32;
     pub(super) fn hz_free(handle: &mut Handle);
+
+    pub(super) fn hz_channel_new(sender: &mut End, receiver: &mut End) -> u32;
+    pub(super) fn hz_channel_another(end: &mut End, other: &mut End) -> u32;
+    pub(super) fn hz_channel_send(sender: &mut End, value: Word, wake: &mut Wake) -> u32;
+    pub(super) fn hz_channel_try_receive(receiver: &mut End, value: &mut Word) -> u32;
+    pub(super) fn hz_channel_pay(end: &mut End, wake: &mut Wake) -> u32;
+    pub(super) fn hz_channel_close(sender: &mut End, wake: &mut Wake) -> u32;
+    pub(super) fn hz_channel_free(end: &mut End, wake: &mut Wake) -> u32;
 }
 
 /// A number of the archive's. This compiles only if `usize` has 64 bits too.

@@ -1,4 +1,5 @@
-//! The proved archive as safe types. All `unsafe` code of the crate is in this module.
+//! The proved archives as safe types. All `unsafe` code of the crate is in this module. The file
+//! `ends.rs` says more of the channel's.
 //!
 //! `bindings/c/hazbultra.h` says what a caller owes. Each comment `SAFETY: the rules of calls` below means this:
 //!
@@ -16,9 +17,9 @@
 //!
 //! # Why a value has one owner
 //!
-//! An item of the archive is a word. Here the word stands for a value: it is the value itself, a box of it, or
-//! the number of its slot. Whoever turns the word back into the value has to be the only one. These proved clauses of the
-//! archive's calls say so. The comments name them `ownership`:
+//! An item of the mailbox is a word. Here the word stands for a value: it is the value itself, or a box of it. Whoever
+//! turns the word back into the value has to be the only one. These proved clauses of the archive's calls say so. The
+//! comments name them `ownership`:
 //!
 //! - `hz_gather`: `main_theorem`, which is that of `Mailbox::gather`. One assignment explains the whole report: each item put
 //!   goes to at most one consumer, which takes its items in the order put, and each that was not taken is left, once.
@@ -32,19 +33,21 @@
 //! A word is an item of a place in a lane. Two places may hold equal words: a box that was taken and freed leaves its
 //! address to a later one, and boxes of no bytes share an address. Then each of the two is a value of its own.
 //!
-//! What a producer wrote before its put, also to a box or a slot, is seen by whoever takes the item, since both access the
+//! What a producer wrote before its put, also to a box, is seen by whoever takes the item, since both access the
 //! shared words in the one order of all `SeqCst` accesses.
 mod calls;
+mod ends;
 mod handle;
 mod heap;
 mod hub;
+mod latch;
 mod parts;
 mod report;
-mod slots;
+mod tray;
 mod word;
 
 pub(crate) use calls::{BITS, MIDDLE, Setup, UNARY, number};
+pub(crate) use ends::{Inlet, Outlet, Unsent, Untaken, ends};
 pub(crate) use hub::{Hub, NotIssued, Refusal};
+pub(crate) use latch::{Held, Latch};
 pub(crate) use parts::{Consumer, Producer};
-pub(crate) use slots::{Emptier, Filler, Slots};
-pub(crate) use word::Word;

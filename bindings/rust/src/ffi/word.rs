@@ -1,4 +1,5 @@
 //! How a value goes through the archive, whose items are words of 64 bits.
+use std::alloc::{Layout, alloc};
 use std::mem::{MaybeUninit, needs_drop};
 
 /// An item of the archive, which is a `u64` in its calls. `MaybeUninit<u64>` has the ABI of `u64`, so the archive gets the
@@ -57,10 +58,29 @@ impl Word {
         }
     }
 
+    /// The same, or the value if there is no memory for the box.
+    #[inline]
+    pub(super) fn try_pack<T>(value: T) -> Result<Word, T> {
+        if fits::<T>() || size_of::<T>() == 0 {
+            return Ok(Word::pack(value));
+        }
+        // SAFETY: the layout has bytes.
+        let at = unsafe { alloc(Layout::new::<T>()) }.cast::<T>();
+        if at.is_null() {
+            return Err(value);
+        }
+        // SAFETY: the block is new, of the layout and the allocator of a box of a `T`.
+        Ok(unsafe {
+            at.write(value);
+            Word::of(Box::from_raw(at))
+        })
+    }
+
     /// The value of a word.
     ///
     /// # Safety
-    /// A call of `pack` for a `T` made the word, and no other call of `unpack` gets what that call made.
+    /// A call of `pack` or `try_pack` for a `T` made the word, and no other call of `unpack` gets what that call
+    /// made.
     #[inline]
     pub(super) unsafe fn unpack<T>(self) -> T {
         // SAFETY: the caller's promise. It is the same case as in `pack`.
@@ -83,8 +103,11 @@ mod tests {
 
     /// Whether the value comes back.
     fn comes_back<T: Copy + Debug + PartialEq>(value: T) {
-        // SAFETY: `pack` made the word of a `T`, which is used once.
+        // SAFETY: `pack` or `try_pack` made the word of a `T`, which is used once.
         assert_eq!(unsafe { Word::pack(value).unpack::<T>() }, value);
+        let word = Word::try_pack(value).expect("there is memory");
+        // SAFETY: the same.
+        assert_eq!(unsafe { word.unpack::<T>() }, value);
     }
 
     #[test]

@@ -4,7 +4,7 @@ use crate::rule::{AccessSpec, MakeAccess};
 use crate::views::View;
 use atomic_table::Seat;
 use mb_cells::Word;
-use mb_cells::laws::numbers_are_handed_out_once;
+use mb_cells::laws::numbers_are_issued_once;
 use mb_cells::steps::{
     accesses_lengthen_one_part, addresses_are_apart, history_extends, words_follow_steps,
 };
@@ -87,7 +87,7 @@ impl<A: Allocator + Drop> SharedCells<A> {
         let _ = item;
         accesses_lengthen_one_part();
         addresses_are_apart();
-        numbers_are_handed_out_once();
+        numbers_are_issued_once();
         history_extends();
         words_follow_steps();
         self.table.shared.fetch_add::<MakeAccess<W>>(seat, 0, 1)

@@ -1,37 +1,23 @@
 //! Where the values stand between a send and a receive. The rest of the channel asks to put one, to take one, to close, and
 //! how many there are. Nothing else of it knows how that is done.
-mod chain;
 mod meeting;
-mod segment;
+mod place;
+mod row;
 
-pub(super) use chain::Seat;
 pub(super) use meeting::{Meeting, Ticket};
+pub(super) use row::{Chair, Stand};
 
 use super::audit::{GIVEN_BACK, Ledger};
-use chain::Chain;
+use crate::ffi::Unsent;
+use row::Row;
 use std::sync::Arc;
 use std::sync::atomic::{AtomicU8, Ordering::SeqCst};
-
-/// So many seats, each for one receiver. It is the most consumers that a mailbox may have.
-const SEATS: usize = 64;
 
 /// How a channel is made.
 pub(super) struct Plan<T> {
     /// So many values may wait, if it has a bound.
     pub(super) bound: Option<usize>,
-    /// So many cells each segment has, if it was said.
-    pub(super) cells: Option<usize>,
     pub(super) audit: Option<Arc<Ledger<T>>>,
-}
-
-impl<T> Plan<T> {
-    /// How many cells a segment gets after so many values. If nothing was said, the first is small. Large values get fewer,
-    /// so that a segment's slots take some 256 KiB at most.
-    fn cells_after(&self, put: u64) -> usize {
-        let most = (1 << 18) / (size_of::<T>() + 16);
-        let grown = usize::try_from(put).map_or(usize::MAX, |put| put.max(32));
-        self.cells.unwrap_or(grown.min(most.clamp(32, 4096)))
-    }
 }
 
 /// The result of a look.
@@ -41,7 +27,6 @@ pub(super) enum Look<T> {
     Nothing,
     /// Nothing is left here, and nothing comes here.
     Over,
-    NoMemory,
 }
 
 /// Who may still put values.
@@ -54,8 +39,7 @@ pub(super) enum State {
     Left,
 }
 
-/// The state of a store. It changes under the lock under which values are put. So nobody sees one call before a change that
-/// another one saw after it.
+/// The state of a store.
 struct Status(AtomicU8);
 
 impl Status {
@@ -105,7 +89,7 @@ impl<T> Refused<T> {
 /// A store by its bound.
 #[allow(clippy::large_enum_variant, reason = "there is one of it in a channel")]
 pub(super) enum Store<T> {
-    Chain(Chain<T>),
+    Row(Row<T>),
     /// The bound is 0.
     Meeting(Meeting<T>),
 }
@@ -114,61 +98,96 @@ impl<T> Store<T> {
     pub(super) fn new(plan: Plan<T>) -> Store<T> {
         match plan.bound {
             Some(0) => Store::Meeting(Meeting::new(plan.audit)),
-            _ => Store::Chain(Chain::new(plan)),
+            _ => Store::Row(Row::new(plan)),
         }
     }
 
     pub(super) fn meeting(&self) -> Option<&Meeting<T>> {
         match self {
             Store::Meeting(meeting) => Some(meeting),
-            Store::Chain(_) => None,
+            Store::Row(_) => None,
         }
     }
 
     pub(super) fn bound(&self) -> Option<usize> {
         match self {
-            Store::Chain(chain) => chain.bound(),
+            Store::Row(row) => row.bound(),
             Store::Meeting(_) => Some(0),
         }
     }
 
-    /// How many values wait, at one moment of this call. A value whose take is under way may count.
+    /// How many values wait, at one moment of this call.
     pub(super) fn len(&self) -> usize {
         match self {
-            Store::Chain(chain) => chain.len(),
+            Store::Row(row) => row.len(),
             Store::Meeting(meeting) => meeting.len(),
         }
     }
 
-    /// Puts a value for any receiver.
-    #[inline]
-    pub(super) fn put(&self, value: T, who: u64) -> Result<(), Refused<T>> {
+    /// Whether a sender finds no room, as far as can be seen without a lock.
+    pub(super) fn seems_full(&self) -> bool {
         match self {
-            Store::Chain(chain) => chain.put(value, who),
+            Store::Row(row) => row.seems_full(),
+            Store::Meeting(_) => true,
+        }
+    }
+
+    /// Puts a value for any receiver, of a sender or of a job.
+    #[inline]
+    pub(super) fn put(
+        &self,
+        stand: Option<&Stand<T>>,
+        value: T,
+        who: u64,
+    ) -> Result<(), Refused<T>> {
+        match stand.and_then(Stand::desk) {
+            Some(desk) => desk.send(value, who).map_err(|why| self.refusal(why)),
+            None => self.put_without(stand, value, who),
+        }
+    }
+
+    #[inline(never)]
+    fn put_without(&self, stand: Option<&Stand<T>>, value: T, who: u64) -> Result<(), Refused<T>> {
+        match self {
+            Store::Row(row) => row.put(stand, value, who),
             Store::Meeting(meeting) => meeting.put(value, who),
+        }
+    }
+
+    #[cold]
+    fn refusal(&self, why: Unsent<T>) -> Refused<T> {
+        match self {
+            Store::Row(row) => row.refusal(why),
+            Store::Meeting(_) => unreachable!("a sender of a meeting has no desk"),
         }
     }
 
     /// Takes the first value that nobody else takes. At a meeting a receiver that waits has a ticket.
     #[inline]
-    pub(super) fn take(&self, seat: &Seat<T>, who: u64, ticket: Option<&Ticket>) -> Look<T> {
+    pub(super) fn take(&self, chair: &Chair<T>, who: u64, ticket: Option<&Ticket>) -> Look<T> {
         match self {
-            Store::Chain(chain) => chain.take(seat, who),
+            Store::Row(row) => row.take(chair, who),
             Store::Meeting(meeting) => meeting.take(who, ticket),
         }
     }
 
-    /// What a further receiver takes from.
-    pub(super) fn seat(&self) -> Arc<Seat<T>> {
-        match self {
-            Store::Chain(chain) => chain.seat(),
-            Store::Meeting(_) => Arc::default(),
+    /// A sender goes.
+    pub(super) fn leave_stand(&self, stand: &Stand<T>) {
+        if let (Store::Row(row), Some(desk)) = (self, stand.desk()) {
+            row.leave_desk(desk);
+        }
+    }
+
+    /// A receiver goes.
+    pub(super) fn leave_chair(&self, chair: &Chair<T>) {
+        if let (Store::Row(row), Some(seat)) = (self, chair.get()) {
+            row.leave_seat(seat);
         }
     }
 
     pub(super) fn state(&self) -> State {
         match self {
-            Store::Chain(chain) => chain.state(),
+            Store::Row(row) => row.state(),
             Store::Meeting(meeting) => meeting.state(),
         }
     }
@@ -176,7 +195,7 @@ impl<T> Store<T> {
     /// Goes on to this state, after which it takes fewer values. Returns whether it was open.
     pub(super) fn close(&self, to: State) -> bool {
         match self {
-            Store::Chain(chain) => chain.close(to),
+            Store::Row(row) => row.close(to),
             Store::Meeting(meeting) => meeting.close(to),
         }
     }
@@ -184,7 +203,7 @@ impl<T> Store<T> {
     /// Drops what is left, after all receivers are gone.
     pub(super) fn end(&self) {
         match self {
-            Store::Chain(chain) => chain.end(),
+            Store::Row(row) => row.end(),
             Store::Meeting(meeting) => meeting.end(),
         }
     }

@@ -1,7 +1,7 @@
 -- Proof of `laws::calls_put_items`: what any list of calls does, said by the calls and their answers alone.
 use Rattle.mb_cells.proofs.laws.calls_put_items.Goals as goal
 use Rattle.mb_cells.proofs.CallLaws.{calls_answer, calls_once, calls_once_each, calls_read, calls_within}
-use Rattle.mb_cells.proofs.CallNumbers.{calls_cell, calls_counter, calls_full, calls_handed_out}
+use Rattle.mb_cells.proofs.CallNumbers.{calls_cell, calls_counter, calls_full, calls_issued}
 
 pub returns-clause-reads : goal.returns-clause-reads
 returns-clause-reads c = calls_read
@@ -21,8 +21,8 @@ returns-clause-lane c = calls_once
 pub returns-clause-once : goal.returns-clause-once
 returns-clause-once c = calls_once_each
 
-pub returns-clause-handed_out : goal.returns-clause-handed_out
-returns-clause-handed_out c = calls_handed_out
+pub returns-clause-issued : goal.returns-clause-issued
+returns-clause-issued c = calls_issued
 
 pub returns-clause-counter : goal.returns-clause-counter
 returns-clause-counter c = calls_counter

@@ -4,7 +4,7 @@ use Rattle.std.proofs.Common.{arith, le_refl}
 use Rattle.atomic_table.proofs.Lists.{set_else}
 use Rattle.mb_deciding.specs.Vocabulary.{reg_of}
 use Rattle.mb_claim.specs.Vocabulary.{quorums_of, kinds_of, address_in, access_in, after_op, found_in}
-use Rattle.mb_shared_claims.specs.Types.{Handing, Standing}
+use Rattle.mb_shared_claims.specs.Types.{Issuing, Standing}
 use Rattle.mb_shared_claims.specs.Views.{claims_of_size}
 use Rattle.mb_shared_claims.specs.Rule.{roster}
 use Rattle.mb_shared_claims.proofs.Moves.{begins}
@@ -37,7 +37,7 @@ pub returns-clause-draw : goal.returns-clause-draw
 returns-clause-draw g k size words views id roll held is room =
     let s = held.1 in
     let count = slice_index words (roster k) in
-    let fits = s.fits id (Handing size roll) is in
+    let fits = s.fits id (Issuing size roll) is in
     let counted : count ≡ length roll = fits.2 ∙ sym fits.1.1 in (
       held.0,
       after_drawing k words views held.0 s size id (suc count) roll is refl (omega arith)

@@ -27,7 +27,7 @@ returns-clause-offer c plan h p x table lawful ps xs few =
     producer_goes_on plan h lawful p a maker now
     (λ q r k. c.cells_stand_once.ensures.lane size (a ∷ pool_accesses h) q r k now)
     (λ q. c.cells_stand_once.ensures.once size (a ∷ pool_accesses h) q now) in
-    let bound = c.numbers_are_handed_out_once.ensures.bound size (pool_accesses h) pool in
+    let bound = c.numbers_are_issued_once.ensures.bound size (pool_accesses h) pool in
     let small : value_in Counter (pool_accesses h) < 2 ^ 64 = omega (arith, bound, few) in
     offer_made plan h p ps place.0 place.1 goes x xs small
     (λ e free. c.lanes_lead_on.ensures.prefix plan.claims.cells p

@@ -26,7 +26,7 @@ fetch_add-requires g c =
       omega (arith, wide),
       access_asked laws _ size _ _ _ _ (Producer can.lane) _ can.done Counter (λ n. FetchAdd c.args.item n) _ _ _
           c.self.invariant.0 can.is refl c.requires.picked.0 c.requires.picked.1 tt
-          (fetch_goes c.history_extends.ensures.producer c.numbers_are_handed_out_once.ensures.bound
+          (fetch_goes c.history_extends.ensures.producer c.numbers_are_issued_once.ensures.bound
           size can.lane can.done
           c.args.item c.self.invariant.3 c.self.invariant.4 c.ranges.item.fits can.path),
     )

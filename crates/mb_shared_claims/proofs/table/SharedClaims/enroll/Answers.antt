@@ -1,8 +1,8 @@
 -- Proof of `SharedClaims::enroll`: issues the seat of the next number.
 use Rattle.std.proofs.Common.{◌≡◌, ◌<◌, ◌++◌, sym, ap, ◌∙◌, subst, [], ◌∷◌, None, length, length-append, arith}
-use Rattle.mb_shared_claims.specs.Types.{TableSize, Handing, Drawing, Standing}
+use Rattle.mb_shared_claims.specs.Types.{TableSize, Issuing, Drawing, Standing}
 use Rattle.mb_shared_claims.specs.Views.{claims_of_size}
-use Rattle.mb_shared_claims.specs.ViewSteps.{Seated, roll_of, part_of, drawn, given_out, newcomer}
+use Rattle.mb_shared_claims.specs.ViewSteps.{Seated, roll_of, part_of, drawn, issued, newcomer}
 use Rattle.mb_claim.specs.Vocabulary.{consumer_count}
 use Rattle.mb_shared_claims.specs.Seats.{TableView, HubView, ClaimTable, name_of, size_in}
 use Rattle.mb_shared_claims.proofs.Names.{size_named}
@@ -31,14 +31,14 @@ fetch_add-number-requires g c =
     )
 
 -- after the fetch-add the hub's view says that a number was drawn
-has_drawn : (size : TableSize) (me now : Seated) → me ≡ (Handing size (roll_of me.0), []) → now ≡ (drawn me.0, me.1)
+has_drawn : (size : TableSize) (me now : Seated) → me ≡ (Issuing size (roll_of me.0), []) → now ≡ (drawn me.0, me.1)
     → now ≡ (Drawing size (roll_of me.0), [])
 has_drawn size me now is e = e ∙ ap (λ (z : Seated). (drawn z.0, z.1)) is
 
 -- after the split the hub's roll has a place for that number, and its seat is out
 has_given : (size : TableSize) (me now after : Seated) → now ≡ (Drawing size (roll_of me.0), [])
-    → after ≡ (given_out now.0, now.1) → after ≡ (Handing size (roll_of me.0 ++ None ∷ []), [])
-has_given size me now after is e = e ∙ ap (λ (z : Seated). (given_out z.0, z.1)) is
+    → after ≡ (issued now.0, now.1) → after ≡ (Issuing size (roll_of me.0 ++ None ∷ []), [])
+has_given size me now after is e = e ∙ ap (λ (z : Seated). (issued z.0, z.1)) is
 
 -- the hub, which has drawn the number, may issue it
 pub split_seat-seat-requires : goal.split_seat-seat-requires
@@ -76,7 +76,7 @@ invariant_of-hub g c =
     let list = ap (λ (z : Seated). roll_of z.0) now in
     record {
       size = hub.size;
-      is = now ∙ sym (ap (λ (z : Seated). (Handing hub.size (roll_of z.0), [])) now);
+      is = now ∙ sym (ap (λ (z : Seated). (Issuing hub.size (roll_of z.0), [])) now);
       all = rw list (omega (arith, length-append roll (None ∷ [])));
       absent = rw list (omega (arith, count_out-snoc roll));
     }

@@ -1,6 +1,6 @@
 -- Proof of `SharedClaims::take_in`: takes a seat back.
 use Rattle.std.proofs.Common.{sym, ap, ◌∙◌, subst, [], Some, length-set, arith}
-use Rattle.mb_shared_claims.specs.Types.{Handing}
+use Rattle.mb_shared_claims.specs.Types.{Issuing}
 use Rattle.mb_shared_claims.specs.ViewSteps.{Seated, roll_of, part_of, took_in, settled, WasOut}
 use Rattle.mb_shared_claims.specs.Seats.{TableView, HubView, SeatView, ClaimTable}
 use Rattle.mb_shared_claims.proofs.Moves.{take_asked, settle_asked}
@@ -61,7 +61,7 @@ invariant_of-hub g c =
     let is = hub.absent in
     record {
       size = hub.size;
-      is = now ∙ sym (ap (λ (z : Seated). (Handing hub.size (roll_of z.0), [])) now);
+      is = now ∙ sym (ap (λ (z : Seated). (Issuing hub.size (roll_of z.0), [])) now);
       all = rw list (given ∙ sym (length-set roll c.seat.inside.consumer (Some done)));
       absent = rw list (omega arith);
     }

@@ -1,0 +1,394 @@
+//! A row of values, which is a proved channel of the archive. Each sender and each receiver has an end of it.
+//!
+//! The archive decides in which order the values stand, who takes which, and when nothing is left. An end is for one call
+//! at a time, so each stands at a place of its own, under a latch. With a bound, all senders share one end, and so one
+//! latch: under it they see that there is room, and then send.
+//!
+//! **A receiver finds nothing only at a moment at which nothing is there.** Either the archive says so of its call, or the
+//! row is closed and all is taken that was sent or given back.
+//!
+//! An end that stands in a segment of the row keeps that segment and all later ones. So ends that do nothing are replaced
+//! from time to time by new ones, which stand in no segment.
+use super::place::{Kept, Place, Places};
+use super::{Look, Plan, Refused, State, Status};
+use crate::channel::audit::{GIVEN_BACK, Ledger};
+use crate::channel::system::{Line, Panics, lock};
+use crate::ffi::{self, Held, Inlet, Outlet, Unsent, Untaken};
+use std::alloc::{Layout, handle_alloc_error};
+use std::collections::VecDeque;
+use std::sync::atomic::AtomicU64;
+use std::sync::atomic::Ordering::{Acquire, Relaxed, Release, SeqCst};
+use std::sync::{Arc, Mutex, OnceLock};
+use std::{iter, mem};
+
+/// So many values a sender sends before it gets a desk.
+const EARLY: u64 = 17;
+
+/// After so many takes a receiver looks which ends do nothing. (So many values are in a segment.)
+const TIDY: u64 = 1024;
+
+pub(crate) struct Row<T> {
+    plan: Plan<T>,
+    status: Status,
+    home: Mutex<Home<T>>,
+    /// The desk of those that have none: jobs, new senders, and all senders if there is a bound or an audit.
+    lane: Desk<T>,
+    standing: Mutex<Standing<T>>,
+    sent: Line<Sent>,
+    /// How many were taken, if there is a bound. A take counts before its seat's latch is left.
+    taken: Line<AtomicU64>,
+    /// What jobs gave back after the row was closed. It comes after all that is in the row.
+    back: Mutex<VecDeque<T>>,
+}
+
+/// What senders know, if there is a bound. It changes under the lane's latch.
+#[derive(Default)]
+struct Sent {
+    /// How many values were sent.
+    count: AtomicU64,
+    /// So many were taken when a sender last looked.
+    taken: AtomicU64,
+}
+
+/// From which a sender sends.
+pub(crate) type Desk<T> = Place<Inlet<T>>;
+/// From which a receiver takes.
+pub(crate) type Seat<T> = Place<Outlet<T>>;
+
+/// What a sender has. The first few values that it sends go from the lane. So a sender for one value costs no end.
+pub(crate) struct Stand<T> {
+    desk: OnceLock<Arc<Desk<T>>>,
+    /// How many values it sent before it got a desk.
+    sent: AtomicU64,
+}
+
+/// What a receiver has. It gets a seat with its first receive.
+pub(crate) type Chair<T> = OnceLock<Arc<Seat<T>>>;
+
+/// The ends from which all others are made. They stand in no segment until the row is closed.
+struct Home<T> {
+    inlet: Inlet<T>,
+    outlet: Outlet<T>,
+}
+
+struct Standing<T> {
+    desks: Places<Inlet<T>>,
+    seats: Places<Outlet<T>>,
+    /// How often it was time to tidy up since that was done.
+    due: u64,
+}
+
+/// An end, or what Rust does if there is no memory for a new thing.
+fn made<E>(end: Option<E>) -> E {
+    end.unwrap_or_else(|| handle_alloc_error(Layout::new::<E>()))
+}
+
+impl<T> Default for Stand<T> {
+    fn default() -> Self {
+        Stand {
+            desk: OnceLock::new(),
+            sent: AtomicU64::new(0),
+        }
+    }
+}
+
+impl<T> Stand<T> {
+    #[inline]
+    pub(crate) fn desk(&self) -> Option<&Arc<Desk<T>>> {
+        self.desk.get()
+    }
+}
+
+impl<T> Row<T> {
+    pub(crate) fn new(plan: Plan<T>) -> Row<T> {
+        let (mut inlet, outlet) = made(ffi::ends(plan.audit.is_some()));
+        Row {
+            plan,
+            status: Status::open(),
+            lane: Place::new(made(inlet.another())),
+            home: Mutex::new(Home { inlet, outlet }),
+            standing: Mutex::new(Standing {
+                desks: Places::default(),
+                seats: Places::default(),
+                due: 0,
+            }),
+            sent: Line(Sent::default()),
+            taken: Line(AtomicU64::new(0)),
+            back: Mutex::default(),
+        }
+    }
+
+    pub(crate) fn bound(&self) -> Option<usize> {
+        self.plan.bound
+    }
+
+    pub(crate) fn state(&self) -> State {
+        self.status.state()
+    }
+
+    /// Counts a send of a sender that has no desk, and gives it one if it is time for that, and there is memory.
+    fn settle(&self, stand: &Stand<T>) {
+        let is_alone = self.plan.bound.is_none() && self.plan.audit.is_none();
+        if !is_alone || stand.sent.fetch_add(1, Relaxed) + 1 != EARLY {
+            return;
+        }
+        let inlet = lock(&self.home).inlet.another();
+        // (whoever tidies up takes the two locks in the other order)
+        if let Some(inlet) = inlet {
+            let desk = lock(&self.standing).desks.add(inlet);
+            drop(stand.desk.set(desk)); // (only once)
+        }
+    }
+
+    fn new_seat(&self) -> Arc<Seat<T>> {
+        let outlet = made(lock(&self.home).outlet.another());
+        lock(&self.standing).seats.add(outlet)
+    }
+
+    /// A sender goes.
+    pub(crate) fn leave_desk(&self, desk: &Arc<Desk<T>>) {
+        if lock(&self.standing).desks.remove(desk) {
+            self.come_nearer(desk);
+        }
+    }
+
+    /// A receiver goes.
+    pub(crate) fn leave_seat(&self, seat: &Arc<Seat<T>>) {
+        if lock(&self.standing).seats.remove(seat) {
+            self.tidy();
+        }
+    }
+
+    /// Lets new inlets begin where this desk is, and not before all values that wait.
+    fn come_nearer(&self, desk: &Desk<T>) {
+        if let Some(near) = desk.another() {
+            let far = mem::replace(&mut lock(&self.home).inlet, near);
+            drop(far);
+        }
+    }
+
+    /// Sends a value from the lane, of a sender that has no desk.
+    pub(crate) fn put(
+        &self,
+        stand: Option<&Stand<T>>,
+        value: T,
+        who: u64,
+    ) -> Result<(), Refused<T>> {
+        self.put_in_lane(value, who)?;
+        if let Some(stand) = stand {
+            self.settle(stand);
+        }
+        Ok(())
+    }
+
+    fn put_in_lane(&self, value: T, who: u64) -> Result<(), Refused<T>> {
+        let mut at = self.lane.hold();
+        if let Some(bound) = self.plan.bound.filter(|_| who != GIVEN_BACK) {
+            if !self.status.admits(who) {
+                return Err(Refused::Closed(value));
+            }
+            if self.is_full(bound) {
+                return Err(Refused::Full(value));
+            }
+        }
+        match at.end.send(value, who) {
+            Ok(()) => {
+                self.count(&mut at);
+                Ok(())
+            }
+            Err(why) => self.refused(at, why, who),
+        }
+    }
+
+    /// Counts a value as sent.
+    fn count(&self, at: &mut Kept<Inlet<T>>) {
+        at.count += 1;
+        if self.plan.bound.is_some() {
+            self.sent.0.count.store(at.count, Release);
+        }
+    }
+
+    /// What a value that was not sent comes to at the lane. What a job gives back is kept, unless all receivers are gone.
+    #[cold]
+    fn refused(
+        &self,
+        mut at: Held<'_, Kept<Inlet<T>>>,
+        why: Unsent<T>,
+        who: u64,
+    ) -> Result<(), Refused<T>> {
+        let value = match self.refusal(why) {
+            Refused::Closed(value) => value,
+            why => return Err(why),
+        };
+        let mut back = lock(&self.back);
+        if !self.status.admits(who) {
+            return Err(Refused::Closed(value));
+        }
+        if back.try_reserve(1).is_err() {
+            return Err(Refused::NoMemory(value));
+        }
+        back.push_back(value);
+        self.count(&mut at);
+        Ok(())
+    }
+
+    /// What a sender is told whose value was not sent.
+    #[cold]
+    pub(crate) fn refusal(&self, why: Unsent<T>) -> Refused<T> {
+        match why {
+            Unsent::NoMemory(value) => Refused::NoMemory(value),
+            Unsent::Closed(value) => {
+                // (whoever closes the row says so under this lock, after it is done)
+                drop(lock(&self.home));
+                Refused::Closed(value)
+            }
+        }
+    }
+
+    /// Whether there is no room for a sender. The lane is held.
+    fn is_full(&self, bound: usize) -> bool {
+        let Sent { count, taken } = &self.sent.0;
+        let sent = count.load(Relaxed);
+        let is_full = |taken: u64| sent - taken >= bound as u64;
+        let look = || {
+            let now = self.taken.0.load(SeqCst);
+            taken.store(now, Relaxed);
+            is_full(now)
+        };
+        // (a take that is under way, at a seat that is held, may have made room)
+        is_full(taken.load(Relaxed)) && look() && {
+            let standing = lock(&self.standing);
+            standing.seats.iter().for_each(|it| drop(it.hold()));
+            drop(standing);
+            look()
+        }
+    }
+
+    /// Takes the first value that nobody else takes.
+    #[allow(clippy::inline_always, reason = "a call costs a tenth of a receive")]
+    #[inline(always)]
+    pub(crate) fn take(&self, chair: &Chair<T>, who: u64) -> Look<T> {
+        let mut at = chair.get_or_init(|| self.new_seat()).hold();
+        if let Some(ledger) = &self.plan.audit {
+            return self.take_with(ledger, at, who);
+        }
+        match at.end.take() {
+            Ok((value, _)) => self.took(at, value, who),
+            Err(Untaken::Nothing) => {
+                at.misses += 1;
+                Look::Nothing
+            }
+            Err(Untaken::Closed) => self.take_back(at, who),
+        }
+    }
+
+    /// Counts a value as taken.
+    #[inline]
+    fn took(&self, mut at: Held<'_, Kept<Outlet<T>>>, value: T, who: u64) -> Look<T> {
+        at.count += 1;
+        if self.plan.bound.is_some() {
+            self.taken.0.fetch_add(1, SeqCst);
+        }
+        // (receivers do so at different times)
+        if at.count.wrapping_add(who.wrapping_mul(389)) % TIDY == 0 {
+            drop(at);
+            self.tidy();
+        }
+        Look::Took(value)
+    }
+
+    /// Takes what a job gave back, after all is taken that was sent before the row was closed.
+    #[cold]
+    fn take_back(&self, at: Held<'_, Kept<Outlet<T>>>, who: u64) -> Look<T> {
+        let back = lock(&self.back).pop_front();
+        back.map_or(Look::Nothing, |value| self.took(at, value, who))
+    }
+
+    /// The same with an audit. The takes are one after the other, so the book has their order.
+    #[cold]
+    fn take_with(
+        &self,
+        ledger: &Ledger<T>,
+        mut at: Held<'_, Kept<Outlet<T>>>,
+        who: u64,
+    ) -> Look<T> {
+        let book = ledger.open();
+        let taken = match at.end.take() {
+            Ok(taken) => Some(taken),
+            Err(Untaken::Nothing) => None,
+            Err(Untaken::Closed) => lock(&self.back).pop_front().map(|it| (it, GIVEN_BACK)),
+        };
+        let Some((value, sender)) = taken else {
+            at.misses += 1;
+            return Look::Nothing;
+        };
+        book.write(sender, who);
+        self.took(at, value, who)
+    }
+
+    /// Replaces the ends that did nothing since this was last done. If there are many ends, that is not done each time.
+    #[cold]
+    fn tidy(&self) {
+        let mut standing = lock(&self.standing);
+        standing.due += 1;
+        if standing.due * TIDY < standing.desks.len() + standing.seats.len() {
+            return;
+        }
+        standing.due = 0;
+        if let Some(near) = standing.desks.iter().find(|it| it.is_busy()) {
+            self.come_nearer(near);
+        }
+        let mut home = lock(&self.home);
+        let Home { inlet, outlet } = &mut *home;
+        let desks = standing.desks.iter().chain([&self.lane]);
+        desks.for_each(|it| drop(it.tidy(|| inlet.another())));
+        let seats = standing.seats.iter();
+        seats.for_each(|it| drop(it.tidy(|| outlet.another())));
+    }
+
+    /// How many values wait. All ends stand still at that moment.
+    pub(crate) fn len(&self) -> usize {
+        let lane = self.lane.hold(); // (before the lock, as a sender that finds no room)
+        let Standing { desks, seats, .. } = &*lock(&self.standing);
+        let (senders, receivers) = (desks.hold(), seats.hold());
+        let sent = desks.count(&senders) + lane.count;
+        let waiting = sent.saturating_sub(seats.count(&receivers));
+        usize::try_from(waiting).unwrap_or(usize::MAX)
+    }
+
+    /// Whether a sender finds no room, as far as can be seen without a latch.
+    pub(crate) fn seems_full(&self) -> bool {
+        let sent = self.sent.0.count.load(Acquire);
+        let waiting = sent.saturating_sub(self.taken.0.load(SeqCst));
+        self.plan.bound.is_some_and(|bound| waiting >= bound as u64)
+    }
+
+    pub(crate) fn close(&self, to: State) -> bool {
+        let mut home = lock(&self.home);
+        home.inlet.close();
+        self.status.advance(to)
+    }
+
+    /// Drops what is left, after the row was closed and all receivers are gone.
+    pub(crate) fn end(&self) {
+        // (no receiver will tidy up any more, and an end that stays would keep all segments behind it)
+        let standing = lock(&self.standing);
+        for desk in standing.desks.iter().chain([&self.lane]) {
+            (0..2).for_each(|_| drop(desk.tidy(|| lock(&self.home).inlet.another())));
+        }
+        drop(standing);
+        let mut back = mem::take(&mut *lock(&self.back)).into_iter();
+        let next = || {
+            let in_row = lock(&self.home).outlet.take().ok();
+            in_row.or_else(|| back.next().map(|it| (it, GIVEN_BACK)))
+        };
+        // (under no lock, since a value may have ends of this channel)
+        if let Some(ledger) = &self.plan.audit {
+            ledger.close(iter::from_fn(next).collect());
+        } else {
+            let mut panics = Panics::default();
+            panics.drop_each(iter::from_fn(next).map(|it| it.0));
+            panics.resume();
+        }
+    }
+}

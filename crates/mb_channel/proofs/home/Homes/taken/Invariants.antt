@@ -1,0 +1,12 @@
+use Rattle.std.proofs.Common.{◌≡◌, length}
+use Rattle.mb_channel.specs.Lengths.{HaveLooked, drawn_there, sum_of, sum_to, taken_there}
+use Rattle.mb_channel.proofs.home.Homes.taken.Given as goal
+
+abbrev pub invariant-loop-at : goal.invariant-loop-at
+invariant-loop-at g l = record {
+  first : l.self.first ≡ l.initial.self.first;
+  long : length l.self.list.items ≡ length l.initial.self.list.items;
+  looked : HaveLooked l.initial.self.list.items l.self.list.items;
+  taken : l.taken ≡ sum_to taken_there l.at l.self.list.items;
+  drawn : sum_of drawn_there l.self.list.items ≡ sum_of drawn_there l.initial.self.list.items;
+}

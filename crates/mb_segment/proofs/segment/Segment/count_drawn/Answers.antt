@@ -1,0 +1,10 @@
+use Rattle.std.proofs.Common.{arith}
+use Rattle.mb_segment.proofs.LearnMoves.{learns_drawn_at}
+use Rattle.mb_segment.proofs.segment.Segment.count_drawn.Goals as goal
+
+pub load-requires : goal.load-requires
+load-requires g c = let wide = c.args.self.now.wide in let r = c.requires in (
+  r.segment,
+  omega arith,
+  learns_drawn_at c.args.self.now.table.shared.table_id.slots c.args.hub.now.seat.id c.args.hub.now.seat.me,
+)

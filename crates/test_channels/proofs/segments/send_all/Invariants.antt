@@ -1,6 +1,0 @@
-use Rattle.std.proofs.Common.{◌≡◌}
-use Rattle.mb_segment.specs.Vocabulary.{IsFree}
-use Rattle.test_channels.proofs.segments.send_all.Given as goal
-
-abbrev pub invariant-loop-value : goal.invariant-loop-value
-invariant-loop-value g l = (l.pass.seat.table_id ≡ l.initial.pass.seat.table_id) × IsFree l.pass
