@@ -156,14 +156,14 @@ fn an_end_ends_the_other_side() {
 fn the_end_wakes_sleepers() {
     let (sender, receiver) = unbounded::<u8>();
     let sleeper = thread::spawn(move || receiver.recv());
-    thread::sleep(SHORT);
+    thread::sleep(SHORT * 5);
     drop(sender);
     assert_eq!(sleeper.join().unwrap(), Err(RecvError));
 
     let (sender, receiver) = bounded(1);
     sender.send(1).unwrap();
     let sleeper = thread::spawn(move || sender.send(2));
-    thread::sleep(SHORT);
+    thread::sleep(SHORT * 5);
     drop(receiver);
     assert_eq!(sleeper.join().unwrap(), Err(SendError(2)));
 }
