@@ -146,12 +146,15 @@ fn a_job_without_receivers_drops_its_value() {
 fn who_is_told_of_a_close_finds_the_channel_closed() {
     for round in 0..100 {
         let (sender, receiver) = unbounded();
+        (0..SOME).for_each(|it| sender.send(it).unwrap());
         let closing = thread::spawn(move || (receiver.close(), receiver));
         let is_told = || match round % 2 {
             0 => sender.send(0).is_err(),
             _ => sender.is_closed(),
         };
-        while !is_told() {}
+        while !is_told() {
+            thread::yield_now();
+        }
         assert!(sender.is_closed() && sender.send(0).is_err());
         assert!(closing.join().unwrap().0);
     }
