@@ -25,7 +25,7 @@ LATCH = "test -q --lib latch"
 AT_A_TIME = 4
 # Between two parts of a text.
 CUT = "\n .. \n"
-# It makes a gap wide in which a wrong order shows.
+# It widens the gap in which a wrong order shows.
 MOMENT = "        std::thread::sleep(std::time::Duration::from_millis(1));\n"
 # What is wrong, the file in `src`, the right text, the wrong one, and the test that catches it.
 BODIES = [
