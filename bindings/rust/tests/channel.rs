@@ -50,6 +50,18 @@ fn a_clone_of_a_receiver_begins_where_values_are_left() {
     assert!(receiver.clone().try_iter().eq(2000..3000));
 }
 
+/// An end far behind the others comes to them in more than one call of the archive.
+#[test]
+fn ends_that_are_far_behind_come_nearer() {
+    let (sender, receiver) = unbounded();
+    let (late, later) = (sender.clone(), receiver.clone());
+    (0..20).for_each(|it| late.send(it).unwrap()); // (so it has a place of its own there)
+    (20..5000).for_each(|it| sender.send(it).unwrap());
+    late.send(5000).unwrap();
+    assert!(receiver.try_iter().take(2000).eq(0..2000));
+    assert!(later.try_iter().eq(2000..5001));
+}
+
 #[test]
 fn each_value_goes_to_one_of_many_ends() {
     let (sender, receiver) = unbounded();
@@ -144,14 +156,14 @@ fn an_end_ends_the_other_side() {
 fn the_end_wakes_sleepers() {
     let (sender, receiver) = unbounded::<u8>();
     let sleeper = thread::spawn(move || receiver.recv());
-    thread::sleep(SHORT);
+    thread::sleep(SHORT * 5);
     drop(sender);
     assert_eq!(sleeper.join().unwrap(), Err(RecvError));
 
     let (sender, receiver) = bounded(1);
     sender.send(1).unwrap();
     let sleeper = thread::spawn(move || sender.send(2));
-    thread::sleep(SHORT);
+    thread::sleep(SHORT * 5);
     drop(receiver);
     assert_eq!(sleeper.join().unwrap(), Err(SendError(2)));
 }

@@ -2,6 +2,7 @@
 use hazbultra::channel::{Builder, Receiver, TryRecvError, bounded, unbounded};
 use std::sync::{Arc, Barrier};
 use std::thread;
+use std::time::Duration;
 
 /// So many values give a sender a place of its own.
 const SOME: u64 = 20;
@@ -89,8 +90,11 @@ fn there_is_room_after_a_receiver_found_nothing() {
     let other = receiver.clone();
     thread::scope(move |scope| {
         scope.spawn(move || while other.try_recv() != Err(TryRecvError::Disconnected) {});
-        for _ in 0..30_000 {
+        for round in 0..30_000 {
             sender.try_send([7; 500]).expect("nothing waits");
+            if round % 100 == 0 {
+                thread::sleep(Duration::from_micros(1)); // (so that the other one takes it)
+            }
             while receiver.try_recv().is_ok() {}
         }
     });
@@ -140,11 +144,18 @@ fn a_job_without_receivers_drops_its_value() {
 
 #[test]
 fn who_is_told_of_a_close_finds_the_channel_closed() {
-    for _ in 0..100 {
+    for round in 0..100 {
         let (sender, receiver) = unbounded();
+        (0..SOME).for_each(|it| sender.send(it).unwrap());
         let closing = thread::spawn(move || (receiver.close(), receiver));
-        while sender.send(0).is_ok() {}
-        assert!(sender.is_closed());
+        let is_told = || match round % 2 {
+            0 => sender.send(0).is_err(),
+            _ => sender.is_closed(),
+        };
+        while !is_told() {
+            thread::yield_now();
+        }
+        assert!(sender.is_closed() && sender.send(0).is_err());
         assert!(closing.join().unwrap().0);
     }
 }

@@ -25,6 +25,8 @@ LATCH = "test -q --lib latch"
 AT_A_TIME = 4
 # Between two parts of a text.
 CUT = "\n .. \n"
+# It widens the gap in which a wrong order shows.
+MOMENT = "        std::thread::sleep(std::time::Duration::from_millis(1));\n"
 # What is wrong, the file in `src`, the right text, the wrong one, and the test that catches it.
 BODIES = [
     ("a token is not passed on", "channel/wait", "            self.wake_one();\n        }\n    }\n\n    /// Looks until", "        }\n    }\n\n    /// Looks until", SEARCH),
@@ -68,8 +70,8 @@ BODIES = [
     ("a sender has its own room", "channel/store/row", "self.plan.bound.is_none() && self.plan.audit.is_none();", "self.plan.audit.is_none();", ROW + "a_full_channel"),
     ("a full channel takes one more", "channel/store/row", "sent - taken >= bound as u64", "sent - taken > bound as u64", TEST + "a_bound_holds"),
     ("a sender does not look for room again", "channel/store/row", "is_full(taken.load(Relaxed)) && look() && {\n            let standing = lock(&self.standing);\n            standing.seats.iter().for_each(|it| drop(it.hold()));\n            drop(standing);\n            look()\n        }", "is_full(taken.load(Relaxed))", ROW + "there_is_room"),
-    ("a sender does not wait for takes", "channel/store/row", "            standing.seats.iter().for_each(|it| drop(it.hold()));\n .. \n            self.taken.0.fetch_add(1, SeqCst);\n", "\n .. \n            std::thread::yield_now();\n            self.taken.0.fetch_add(1, SeqCst);\n", ROW + "there_is_room"),
-    ("a take counts after its latch is left", "channel/store/row", "            self.taken.0.fetch_add(1, SeqCst);\n", "            drop(at);\n            std::thread::yield_now();\n            self.taken.0.fetch_add(1, SeqCst);\n            return Look::Took(value);\n", ROW + "there_is_room"),
+    ("a sender does not wait for takes", "channel/store/row", "            standing.seats.iter().for_each(|it| drop(it.hold()));\n .. \n            self.taken.0.fetch_add(1, SeqCst);\n", "\n .. \n" + MOMENT + "            self.taken.0.fetch_add(1, SeqCst);\n", ROW + "there_is_room"),
+    ("a take counts after its latch is left", "channel/store/row", "            self.taken.0.fetch_add(1, SeqCst);\n", "            drop(at);\n" + MOMENT + "            self.taken.0.fetch_add(1, SeqCst);\n            return Look::Took(value);\n", ROW + "there_is_room"),
     ("room is not given back", "channel/store/row", "            self.taken.0.fetch_add(1, SeqCst);\n", "", ROW + "there_is_room"),
     ("room is given back at each look", "channel/store/row", "        let mut at = chair.get_or_init(|| self.new_seat()).hold();\n", "        let mut at = chair.get_or_init(|| self.new_seat()).hold();\n        self.taken.0.fetch_add(1, SeqCst);\n", TEST + "a_bound_holds"),
     ("a job that comes back needs room", "channel/store/row", ".filter(|_| who != GIVEN_BACK) {", "{", ROW + "what_a_job"),
@@ -79,8 +81,8 @@ BODIES = [
     ("a value counts that is not sent", "channel/store/place", "            Err(_) => kept.misses += 1,\n", "            Err(_) => kept.count += 1,\n", ROW + "what_gone"),
     ("a take is not counted", "channel/store/row", "        at.count += 1;\n        if self.plan.bound.is_some() {\n            self.taken", "        if self.plan.bound.is_some() {\n            self.taken", ROW + "what_gone"),
     ("ends that are gone do not count", "channel/store/place", "self.gone += place.hold().count;", "drop(place.hold());", ROW + "what_gone"),
-    ("what waits is counted at two moments", "channel/store/row", "        let (senders, receivers) = (desks.hold(), seats.hold());\n        let sent = desks.count(&senders)\n .. \nseats.count(&receivers)", "        let sent = desks.count(&desks.hold())\n .. \nseats.count(&seats.hold())", FAULTS + "one_or_two"),
-    ("a count and a sender wait for each other", "channel/store/row", "        let lane = self.lane.hold(); // (before the lock, as a sender that finds no room)\n        let Standing { desks, seats, .. } = &*lock(&self.standing);\n", "        let Standing { desks, seats, .. } = &*lock(&self.standing);\n        let lane = self.lane.hold();\n", ROW + "a_full_channel"),
+    ("what waits is counted at two moments", "channel/store/row", "        let (senders, receivers) = (desks.hold(), seats.hold());\n        let sent = desks.count(&senders)\n .. \n        let waiting = sent.saturating_sub(seats.count(&receivers));\n", "        let sent = desks.count(&desks.hold())\n .. \n        std::thread::yield_now();\n        let waiting = sent.saturating_sub(seats.count(&seats.hold()));\n", FAULTS + "one_or_two"),
+    ("a count and a sender wait for each other", "channel/store/row", "            let standing = lock(&self.standing);\n            standing.seats\n .. \n        let lane = self.lane.hold(); // (before the lock, as a sender that finds no room)\n        let Standing { desks, seats, .. } = &*lock(&self.standing);\n", "            std::thread::yield_now();\n            let standing = lock(&self.standing);\n            standing.seats\n .. \n        let Standing { desks, seats, .. } = &*lock(&self.standing);\n        std::thread::yield_now();\n        let lane = self.lane.hold();\n", ROW + "a_full_channel"),
     ("a desk stays after its sender", "channel/store/row", "if lock(&self.standing).desks.remove(desk) {", "if Arc::strong_count(desk) == 0 {", ROW + "what_is_gone"),
     ("a seat stays after its receiver", "channel/store/row", "if lock(&self.standing).seats.remove(seat) {", "if Arc::strong_count(seat) == 0 {", ROW + "what_is_gone"),
     ("idle desks are not replaced", "channel/store/row", "        desks.for_each(|it| drop(it.tidy(|| inlet.another())));\n", "        drop((desks, inlet));\n", JOBS + "an_idle_end"),
@@ -89,8 +91,8 @@ BODIES = [
     ("an end counts as used for ever", "channel/store/place", "mem::replace(&mut kept.seen, calls)", "mem::replace(&mut kept.seen, 0)", JOBS + "an_idle_end"),
     ("an end that only looked stays", "channel/store/row", "                at.misses += 1;\n                Look::Nothing", "                Look::Nothing", JOBS + "an_idle_end"),
     ("an end that is replaced is not freed", "ffi/ends", "        if self.full {\n            self.finish", "        if !self.full {\n            self.finish", JOBS + "an_idle_end"),
-    ("a close is said before it is done", "channel/store/row", "        home.inlet.close();\n        self.status.advance(to)", "        let was_open = self.status.advance(to);\n        std::thread::yield_now();\n        home.inlet.close();\n        was_open", CALLS + "a_close_loses"),
-    ("who is refused runs ahead of the close", "channel/store/row", "                drop(lock(&self.home));\n", "", ROW + "who_is_told"),
+    ("a close is said before it is done", "channel/store/row", "        home.inlet.close();\n        self.status.advance(to)", "        let was_open = self.status.advance(to);\n" + MOMENT + "        home.inlet.close();\n        was_open", ROW + "who_is_told"),
+    ("who is refused runs ahead of the close", "channel/store/row", "                drop(lock(&self.home));\n .. \n        self.status.advance(to)\n", "\n .. \n" + MOMENT + "        self.status.advance(to)\n", ROW + "who_is_told"),
     ("a close does not close the row", "channel/store/row", "        home.inlet.close();\n", "        let _ = &mut home;\n", CALLS + "after_a_close"),
     ("each close is the first", "channel/store/mod", "self.0.fetch_max(to as u8, SeqCst) == State::Open as u8", "self.0.fetch_max(to as u8, SeqCst) <= to as u8", CALLS + "after_a_close"),
     ("a close lets jobs in again", "channel/store/mod", "self.0.fetch_max(to as u8, SeqCst)", "self.0.swap(to as u8, SeqCst)", ROW + "a_job_without"),
@@ -104,9 +106,9 @@ BODIES = [
     ("what is left is dropped at once", "channel/store/row", "            panics.drop_each(iter::from_fn(next).map(|it| it.0));\n", "            panics.contain(|| iter::from_fn(next).for_each(drop));\n", FAULTS + "all_that_is_left"),
     ("what is left stays in the row", "channel/store/row", "            let in_row = lock(&self.home).outlet.take().ok();\n", "            let in_row = None;\n", TEST + "what_is_left"),
     ("the last receiver does not close", "channel/shared", "            self.store.close(State::Left);\n", "", TEST + "an_end_ends"),
-    ("a send that has to go on counts as done", "ffi/ends", "                calls::AGAIN => pause(turn),\n                calls::DONE => break,", "                calls::AGAIN | calls::DONE => break,", CALLS + "a_close_loses"),
+    ("a send that has to go on counts as done", "ffi/ends", "                calls::AGAIN => pause(turn),\n                calls::DONE => break,", "                calls::AGAIN | calls::DONE => break,", TEST + "ends_that"),
     ("a send to a closed channel counts as done", "ffi/ends", "                calls::DONE => break,\n", "                calls::DONE | calls::CLOSED => break,\n", CALLS + "after_a_close"),
-    ("a take that has to go on finds nothing", "ffi/ends", "                calls::NOTHING => return Err(Untaken::Nothing),", "                calls::NOTHING | calls::AGAIN => return Err(Untaken::Nothing),", TEST + "a_receiver_finds"),
+    ("a take that has to go on finds nothing", "ffi/ends", "                calls::NOTHING => return Err(Untaken::Nothing),", "                calls::NOTHING | calls::AGAIN => return Err(Untaken::Nothing),", TEST + "ends_that"),
     ("the end of the row is not told", "ffi/ends", "                calls::CLOSED => return Err(Untaken::Closed),", "                calls::CLOSED => return Err(Untaken::Nothing),", ROW + "what_a_job"),
     ("a latch that is held is held again", "ffi/latch", "        (!was_taken).then(|| Held(self))", "        let _ = was_taken;\n        Some(Held(self))", LATCH),
     ("a try leaves the latch of another", "ffi/latch", "        (!was_taken).then(|| Held(self))", "        (!was_taken).then_some(Held(self))", LATCH),
@@ -119,7 +121,7 @@ BODIES = [
     ("a sender is not written down", "channel/store/row", "        match at.end.send(value, who) {", "        match at.end.send(value, GIVEN_BACK) {", JOBS + "accounts_while"),
     ("a sender has the number of another", "ffi/ends", "Word::try_pack((value, who))", "Word::try_pack((value, who & !1))", ROW + "accounts_have"),
     ("a taker is not written down", "channel/store/row", "        book.write(sender, who);\n", "        book.write(sender, 0);\n", JOBS + "accounts_while"),
-    ("the book is opened after the take", "channel/store/row", "        let book = ledger.open();\n .. \n        book.write(sender, who);\n", "\n .. \n        std::thread::yield_now();\n        ledger.open().write(sender, who);\n", ROW + "an_account_has"),
+    ("the book is opened after the take", "channel/store/row", "        let book = ledger.open();\n .. \n        book.write(sender, who);\n", "\n .. \n        std::thread::sleep(std::time::Duration::from_millis(who % 2));\n        ledger.open().write(sender, who);\n", ROW + "an_account_has"),
     ("an account is one too large", "channel/audit", "self.0.fates.len() >= self.0.each", "self.0.fates.len() > self.0.each", JOBS + "accounts_while"),
     ("one account too few is kept", "channel/audit", "self.accounts.len() > self.kept", "self.accounts.len() >= self.kept", JOBS + "the_audit_agrees"),
     ("the last account needs values that are left", "channel/audit", "        let old = book.make_account(left);\n", "        let old = (!left.is_empty()).then(|| book.make_account(left)).flatten();\n", ROW + "the_last_account"),
@@ -159,10 +161,10 @@ def tried(body, rooms):
         built = test.replace("test -q", "test -q --no-run", 1)
         if caught(" ".join(built.split()[:5]), room, 300):
             return "BAD EDIT"
-        # (the search takes long, but always ends)
-        left = 300 if test == SEARCH else 20
+        # (the search takes long, but always ends, and so does each test if nothing is wrong)
+        left = 20 if what and test != SEARCH else 300
         # (some faults show in some orders of the threads alone)
-        found = any(caught(test, room, left) for _ in range(5 if what else 1))
+        found = any(caught(test, room, left) for _ in range(12 if what else 1))
         return None if found == bool(what) else "NOT CAUGHT" if what else "FAILED"
     finally:
         if what:
