@@ -50,25 +50,33 @@ typedef struct hz_sleepers hz_sleepers;
 typedef struct {
     hz_end end;
     hz_sleepers *sleepers;
+    uint64_t bound; /* 0 if the channel has none */
 } hz_sender;
 
 typedef struct {
     hz_end end;
     hz_sleepers *sleepers;
+    uint64_t bound;
 } hz_receiver;
 
 #ifdef __cplusplus
 #define HZ_NO_SENDER (hz_sender())
 #define HZ_NO_RECEIVER (hz_receiver())
 #else
-#define HZ_NO_SENDER ((hz_sender){ { false, NULL }, NULL })
-#define HZ_NO_RECEIVER ((hz_receiver){ { false, NULL }, NULL })
+#define HZ_NO_SENDER ((hz_sender){ { false, NULL }, NULL, 0 })
+#define HZ_NO_RECEIVER ((hz_receiver){ { false, NULL }, NULL, 0 })
 #endif
 
 /* Makes a channel with a sender and a receiver. HZ_DONE. HZ_BAD_HANDLE: one of the two leads to something already.
  * HZ_NO_MEMORY. After the last two nothing has changed. */
 HZ_CHECKED HZ_NONNULL
 uint32_t hz_channel(hz_sender *sender, hz_receiver *receiver);
+
+/* The same, and at most `bound` values wait. HZ_BAD_BOUND: it is 0. (No send waits until its value is received.) A permit belongs
+ * to each value that is sent, from before it is sent until after it was received. There are `bound` permits. Once the last receiver
+ * was freed, nothing can be sent. (Without a bound a sender is not told that no receiver is left.) */
+HZ_CHECKED HZ_NONNULL
+uint32_t hz_bounded_channel(hz_sender *sender, hz_receiver *receiver, uint64_t bound);
 
 /* Makes another end of the same channel. HZ_DONE. HZ_BAD_HANDLE: the first leads to nothing, or the second to something already.
  * HZ_NO_MEMORY. HZ_CROWDED: so many ends were made that they cannot be counted. */
@@ -80,9 +88,14 @@ uint32_t hz_receiver_clone(hz_receiver *receiver, hz_receiver *other);
 /* Sends a value. HZ_DONE: it was sent, and a receiver is woken if one sleeps. Else it was not sent. HZ_CLOSED: the channel is
  * closed, for ever. HZ_NO_MEMORY: there is none for the next values. HZ_CROWDED: so many ends are at one place that they cannot
  * be counted. HZ_BAD_HANDLE: the sender leads to nothing. hz_send waits while other ends are always first, or while one of them
- * adds memory. Then hz_try_send returns HZ_AGAIN. */
+ * adds memory. Then hz_try_send returns HZ_AGAIN.
+ * In a channel with a bound, hz_send sleeps while all permits are taken. hz_send_by sleeps until the deadline, as hz_recv_by does
+ * below, and returns HZ_FULL if that came first: at a moment of the call all permits were taken. hz_try_send returns HZ_FULL at
+ * once. */
 HZ_CHECKED HZ_NONNULL
-uint32_t hz_send(hz_sender *sender, uint64_t value);
+static inline uint32_t hz_send(hz_sender *sender, uint64_t value);
+HZ_CHECKED
+uint32_t hz_send_by(hz_sender *sender, uint64_t value, const struct timespec *deadline);
 HZ_CHECKED HZ_NONNULL
 uint32_t hz_try_send(hz_sender *sender, uint64_t value);
 
@@ -107,7 +120,7 @@ uint32_t hz_sender_len(hz_sender *sender, uint64_t *len);
 HZ_CHECKED HZ_NONNULL
 uint32_t hz_receiver_len(hz_receiver *receiver, uint64_t *len);
 
-/* Closes the channel, for ever: nothing can be sent any more, and all receivers that sleep are woken. What waits can still be
+/* Closes the channel, for ever: nothing can be sent any more, and all ends that sleep are woken. What waits can still be
  * received. HZ_DONE. HZ_BAD_HANDLE. */
 HZ_NONNULL
 uint32_t hz_close(hz_sender *sender);
@@ -184,13 +197,25 @@ uint32_t hz_channel_close(hz_end *sender, hz_wake *wake);
 HZ_CHECKED HZ_NONNULL
 uint32_t hz_channel_free(hz_end *end, hz_wake *wake);
 
-static inline uint32_t hz_recv(hz_receiver *receiver, uint64_t *value) {
-    uint32_t code = hz_channel_try_receive(&receiver->end, value);
-    return code == HZ_NOTHING || code == HZ_AGAIN ? hz_recv_by(receiver, value, NULL) : code;
+/* Gives the permit of a value back that was received from a channel with a bound. hz_recv, hz_recv_by and hz_try_recv do it. */
+HZ_NONNULL
+void hz_give_permit(hz_sleepers *sleepers);
+
+static inline uint32_t hz_send(hz_sender *sender, uint64_t value) {
+    uint32_t code = hz_try_send(sender, value);
+    return code == HZ_AGAIN || code == HZ_FULL ? hz_send_by(sender, value, NULL) : code;
 }
 
 static inline uint32_t hz_try_recv(hz_receiver *receiver, uint64_t *value) {
-    return hz_channel_try_receive(&receiver->end, value);
+    uint32_t code = hz_channel_try_receive(&receiver->end, value);
+    if (code == HZ_TOOK && receiver->bound)
+        hz_give_permit(receiver->sleepers);
+    return code;
+}
+
+static inline uint32_t hz_recv(hz_receiver *receiver, uint64_t *value) {
+    uint32_t code = hz_try_recv(receiver, value);
+    return code == HZ_AGAIN || code == HZ_NOTHING ? hz_recv_by(receiver, value, NULL) : code;
 }
 
 #ifdef __cplusplus
