@@ -3,7 +3,7 @@
  * A receiver that is to sleep stands in a list with its place, and then looks once more. So it meets a token that was given
  * before, and a wake that finds nobody at its place in the list may be forgotten. A token can be taken by any receiver that sleeps
  * at its place. So one that is woken, and goes without a token, wakes another.
- * With a bound, a sender takes a permit before it sends, and a receive gives it back. Senders sleep for permits in the same list. */
+ * If there is a bound, a sender takes a permit before it sends, and a receive gives it back. Senders sleep for permits alike. */
 #undef _POSIX_C_SOURCE
 #define _POSIX_C_SOURCE 200809L
 #include "hazbultra_channel.h"
