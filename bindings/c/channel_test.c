@@ -205,6 +205,38 @@ static void a_bound_holds(void) {
     EXPECT(hz_close(&sender) == HZ_BAD_HANDLE && hz_receiver_free(&receiver) == HZ_BAD_HANDLE);
 }
 
+/* Sends until the channel is full, and returns how often. */
+static void *fill(void *given) {
+    uint32_t code;
+    uintptr_t many = 0;
+    while ((code = hz_try_send(given, 1)) != HZ_FULL) {
+        EXPECT(code == HZ_DONE || code == HZ_AGAIN);
+        many += code == HZ_DONE;
+    }
+    return (void *)many;
+}
+
+/* Four senders at once find that the channel is full, neither too early nor too late. */
+static void four_fill(uint64_t most) {
+    hz_receiver receiver = HZ_NO_RECEIVER;
+    pthread_t threads[4];
+    uint64_t sum = 0, len;
+    EXPECT(hz_bounded_channel(&senders[3], &receiver, most) == HZ_DONE);
+    for (unsigned i = 0; i < 4; i++) {
+        EXPECT(i == 3 || hz_sender_clone(&senders[3], &senders[i]) == HZ_DONE);
+        EXPECT(!pthread_create(&threads[i], NULL, fill, &senders[i]));
+    }
+    for (unsigned i = 0; i < 4; i++) {
+        void *many;
+        EXPECT(!pthread_join(threads[i], &many));
+        sum += (uintptr_t)many;
+    }
+    EXPECT(hz_receiver_len(&receiver, &len) == HZ_DONE && len == most && sum == most);
+    for (unsigned i = 0; i < 4; i++)
+        EXPECT(hz_sender_free(&senders[i]) == HZ_DONE);
+    EXPECT(hz_receiver_free(&receiver) == HZ_DONE);
+}
+
 /* With a bound, the last receiver closes the channel. */
 static void receivers_go(uint64_t most) {
     hz_sender sender = HZ_NO_SENDER;
@@ -258,6 +290,8 @@ int main(int count, char **words) {
     closing_wakes();
     ends_count();
     a_bound_holds();
+    for (uint64_t i = 0; i < 50; i++)
+        four_fill(3000 + i);
     receivers_go(0);
     receivers_go(UINT64_MAX);
     senders_are_woken_by(RECEIVES);
