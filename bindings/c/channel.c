@@ -24,7 +24,7 @@ struct sleeper {
 };
 
 struct hz_sleepers {
-    _Atomic size_t owners, receivers, waiting; /* owners: senders, and all receivers together; waiting: senders */
+    _Atomic size_t owners, receivers, waiting; /* owners: each sender, and all receivers as one; waiting: senders */
     _Atomic int64_t permits;                   /* how many are out. Below 0 nothing can be sent any more */
     pthread_mutex_t lock;
     struct sleeper *first;
@@ -53,13 +53,13 @@ static bool take_out(hz_sleepers *all, const struct sleeper *self, uint64_t plac
     return found;
 }
 
-/* An end leaves the list. If somebody took it out, for a token that it may not have taken, another one has to be woken. */
+/* An end leaves the list. If it was taken out, for a token or permit that it may not have got, another one has to be woken. */
 static void leave(hz_sleepers *all, const struct sleeper *self, bool has_token) {
     if (!take_out(all, self, 0) && !has_token)
         take_out(all, NULL, self->place);
 }
 
-/* Takes out and wakes a sender that waits, once the permit is there. A sender counts as one that waits before it looks. */
+/* The permit is there before this looks whether a sender waits. A sender counts as waiting before it looks for a permit. */
 WEAK void hz_give_permit(hz_sleepers *all) {
     atomic_fetch_sub(&all->permits, 1);
     if (atomic_load(&all->waiting))
