@@ -1,9 +1,10 @@
-/* Tries orders of the steps of channel.c, which is a part of this file: does a receiver ever sleep beside a value?
+/* Tries orders of the steps of channel.c, which is a part of this file: does a receiver ever sleep beside a value? Does a sender
+ * ever sleep beside a permit, or after the last receiver was freed? Do more values wait than the bound?
  *
- *     channel_orders [MANY]   so many orders, drawn at random from a fixed seed, without and with a deadline
+ *     channel_orders [MANY]   so many orders, drawn at random from a fixed seed, for each of five cases
  *
- * Three receivers and three senders of one value each run as contexts, and one of them goes on at each step. In place of the archive
- * there is a model of its list of sleepers, with the same atomic steps. */
+ * Three receivers and three senders run as contexts, and one of them goes on at each step. In place of the archive there is a model
+ * of its list of sleepers, with the same atomic steps. */
 #include <errno.h>
 #include <pthread.h>
 #include <sched.h>
@@ -28,6 +29,17 @@ static void wake_up(const void *cond);
 #define pthread_cond_timedwait(cond, lock, deadline) ((void)(lock), sleep_on(cond, deadline))
 #define pthread_cond_signal(cond) wake_up(cond)
 #define sched_yield() ((void)0)
+#undef atomic_load
+#undef atomic_fetch_add
+#undef atomic_fetch_sub
+#undef atomic_fetch_or
+#undef atomic_compare_exchange_weak
+#define atomic_load(at) (step(), atomic_load_explicit(at, memory_order_seq_cst))
+#define atomic_fetch_add(at, more) (step(), atomic_fetch_add_explicit(at, more, memory_order_seq_cst))
+#define atomic_fetch_sub(at, less) (step(), atomic_fetch_sub_explicit(at, less, memory_order_seq_cst))
+#define atomic_fetch_or(at, bits) (step(), atomic_fetch_or_explicit(at, bits, memory_order_seq_cst))
+#define atomic_compare_exchange_weak(at, seen, next) (step(), atomic_compare_exchange_strong_explicit(at, seen, next, \
+memory_order_seq_cst, memory_order_seq_cst))
 #define volatile /* so that a compiler drops the pauses */
 #include "channel.c"
 #undef volatile
@@ -50,13 +62,14 @@ static struct {
 static jmp_buf places[ENDS], search;
 static char stacks[ENDS][STACK] __attribute__((aligned(16)));
 static unsigned self;
-static bool with_deadline;
+static bool with_deadline, leaves; /* leaves: the receivers are freed, and receive nothing */
+static uint64_t bound;             /* 0: none */
 static hz_sender senders[ENDS];
 static hz_receiver receivers[ENDS];
 
 /* ---- Contexts in place of threads. */
 static void step(void) {
-    if (!_setjmp(places[self]))
+    if (self < ENDS && !_setjmp(places[self]))
         _longjmp(search, 1);
 }
 
@@ -80,16 +93,35 @@ static void wake_up(const void *cond) {
             now.ends[i].status = READY;
 }
 
-static void run(unsigned number) {
+static const struct timespec deadline;
+
+static void send_one(hz_sender *sender) {
+    uint32_t code = with_deadline ? hz_send_by(sender, 7, &deadline) : hz_send(sender, 7);
+    if (with_deadline && code == HZ_FULL)
+        code = hz_send(sender, 7);
+    if (code != HZ_DONE && !(leaves && code == HZ_CLOSED))
+        abort();
+}
+
+static void receive_one(hz_receiver *receiver) {
     uint64_t value;
-    struct timespec deadline = {0, 0};
+    if (!with_deadline || hz_recv_by(receiver, &value, &deadline) != HZ_TOOK)
+        if (hz_recv(receiver, &value) != HZ_TOOK)
+            abort();
+}
+
+static void run(unsigned number) {
     step();
     if (number >= RECEIVERS) {
-        if (hz_send(&senders[number], 7) != HZ_DONE)
-            abort();
-    } else if (!with_deadline || hz_recv_by(&receivers[number], &value, &deadline) != HZ_TOOK) {
-        if (hz_recv(&receivers[number], &value) != HZ_TOOK)
-            abort();
+        send_one(&senders[number]);
+        if (bound)
+            send_one(&senders[number]);
+    } else if (leaves) {
+        hz_receiver_free(&receivers[number]);
+    } else {
+        receive_one(&receivers[number]);
+        if (bound)
+            receive_one(&receivers[number]);
     }
     now.ends[number].status = DONE;
     _longjmp(search, 1);
@@ -142,7 +174,10 @@ uint32_t hz_channel_pay(hz_end *end, hz_wake *wake) {
 uint32_t hz_channel_send(hz_end *end, uint64_t value, hz_wake *wake) {
     (void)value;
     step();
-    now.values++;
+    if (now.values++ == bound && bound) {
+        puts("more values wait than the bound");
+        exit(1);
+    }
     OWED = TOKEN;
     hz_channel_pay(end, wake);
     return HZ_DONE;
@@ -215,12 +250,14 @@ uint32_t hz_channel_free(hz_end *end, hz_wake *wake) {
 /* ---- The search. */
 static void begin(void) {
     memset(&now, 0, sizeof now);
-    if (hz_channel(&senders[0], &receivers[0]) != HZ_DONE)
+    self = ENDS;
+    if ((bound ? hz_bounded_channel(&senders[3], &receivers[0], bound) : hz_channel(&senders[3], &receivers[0])) != HZ_DONE)
         abort();
+    for (unsigned i = 1; i < RECEIVERS; i++)
+        if (hz_receiver_clone(&receivers[0], &receivers[i]) != HZ_DONE || hz_sender_clone(&senders[3], &senders[3 + i]) != HZ_DONE)
+            abort();
     for (self = 0; self < ENDS; self++) {
         ucontext_t first;
-        senders[self] = senders[0];
-        receivers[self] = receivers[0];
         getcontext(&first);
         first.uc_stack.ss_sp = stacks[self];
         first.uc_stack.ss_size = STACK;
@@ -255,7 +292,7 @@ static unsigned choices_now(void) {
     return many;
 }
 
-static void try_orders(unsigned long orders) {
+static void try_orders(unsigned long orders, const char *how) {
     uint64_t word = 1;
     for (unsigned long i = 0; i < orders; i++) {
         begin();
@@ -265,13 +302,19 @@ static void try_orders(unsigned long orders) {
             word ^= word << 17;
         }
     }
-    printf("%lu orders%s: no receiver slept beside a value\n", orders, with_deadline ? ", with deadlines" : "");
+    printf("%lu orders%s: nobody slept for ever\n", orders, how);
 }
 
 int main(int count, char **words) {
     unsigned long orders = count > 1 ? strtoul(words[1], NULL, 10) : 100000;
-    try_orders(orders);
+    try_orders(orders, "");
     with_deadline = true;
-    try_orders(orders);
+    try_orders(orders, ", with deadlines");
+    bound = 1;
+    try_orders(orders, ", with a bound and deadlines");
+    with_deadline = false;
+    try_orders(orders, ", with a bound");
+    leaves = true;
+    try_orders(orders, ", with a bound and no receiver");
     return 0;
 }

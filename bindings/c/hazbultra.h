@@ -121,6 +121,7 @@ typedef enum {
     HZ_OTHER_MAILBOX = 20,
     HZ_NOT_THERE = 21,
     HZ_CROWDED = 22,
+    HZ_BAD_BOUND = 23, /* the bound of a channel is 0 */
 
     /* why hz_mailbox_new refused a setup: the first of these that holds */
     HZ_BAD_TABLE = 32,     /* table is no hz_table */
@@ -136,7 +137,7 @@ static inline const char *hz_code_name(uint32_t code) {
     switch (code) {
         HZ_NAME(HZ_DONE) HZ_NAME(HZ_TOOK) HZ_NAME(HZ_LOST) HZ_NAME(HZ_UNDECIDED) HZ_NAME(HZ_NOTHING) HZ_NAME(HZ_ENDED)
         HZ_NAME(HZ_SPENT) HZ_NAME(HZ_NO_LANE) HZ_NAME(HZ_LINKED) HZ_NAME(HZ_FULL) HZ_NAME(HZ_CLOSED)
-        HZ_NAME(HZ_AGAIN) HZ_NAME(HZ_SLEEPS) HZ_NAME(HZ_CROWDED)
+        HZ_NAME(HZ_AGAIN) HZ_NAME(HZ_SLEEPS) HZ_NAME(HZ_CROWDED) HZ_NAME(HZ_BAD_BOUND)
         HZ_NAME(HZ_NO_MEMORY) HZ_NAME(HZ_BAD_HANDLE) HZ_NAME(HZ_ALL_GIVEN) HZ_NAME(HZ_MISSING)
         HZ_NAME(HZ_OTHER_MAILBOX) HZ_NAME(HZ_NOT_THERE) HZ_NAME(HZ_BAD_TABLE) HZ_NAME(HZ_BAD_PRODUCERS)
         HZ_NAME(HZ_BAD_CONSUMERS) HZ_NAME(HZ_BAD_CELLS) HZ_NAME(HZ_BAD_PAIRS)

@@ -62,6 +62,10 @@ class channel_end {
 
   protected:
     void clone_into(channel_end &other) { expect_done(make(&end, &other.end)); }
+    static timespec in_c(std::chrono::steady_clock::time_point deadline) noexcept {
+        auto since = std::chrono::nanoseconds(deadline.time_since_epoch()).count();
+        return {time_t(since / 1000000000), long(since % 1000000000)};
+    }
     End end = {};
 };
 
@@ -74,15 +78,24 @@ class sender : public channel_end<hz_sender, hz_sender_clone, hz_sender_len, hz_
         clone_into(made);
         return made;
     }
-    /* Returns HZ_DONE. Else the value was not sent: HZ_CLOSED, HZ_NO_MEMORY or HZ_CROWDED. */
+    /* Sleeps until there is room, and returns HZ_DONE. Else the value was not sent: HZ_CLOSED, HZ_NO_MEMORY or HZ_CROWDED. */
     [[nodiscard]] hz_code send(uint64_t value) noexcept { return hz_code(hz_send(&end, value)); }
-    /* The same, or HZ_AGAIN: it does not wait while other ends are always first. */
+    /* The same, or HZ_FULL: there was no room before the deadline. */
+    [[nodiscard]] hz_code send_until(uint64_t value, std::chrono::steady_clock::time_point deadline) noexcept {
+        timespec at = in_c(deadline);
+        return hz_code(hz_send_by(&end, value, &at));
+    }
+    [[nodiscard]] hz_code send_for(uint64_t value, std::chrono::nanoseconds time) noexcept {
+        return send_until(value, std::chrono::steady_clock::now() + time);
+    }
+    /* It does not sleep. HZ_FULL: there is no room. HZ_AGAIN: other ends were first. */
     [[nodiscard]] hz_code try_send(uint64_t value) noexcept { return hz_code(hz_try_send(&end, value)); }
     /* Closes the channel, for ever. */
     hz_code close() noexcept { return hz_code(hz_close(&end)); }
 
   private:
     friend std::pair<sender, class receiver> channel();
+    friend std::pair<sender, class receiver> bounded_channel(uint64_t);
 };
 
 /* It receives. */
@@ -98,8 +111,7 @@ class receiver : public channel_end<hz_receiver, hz_receiver_clone, hz_receiver_
     [[nodiscard]] answer recv() noexcept { return recv_by(nullptr); }
     /* The same, or HZ_NOTHING: the deadline came first. */
     [[nodiscard]] answer recv_until(std::chrono::steady_clock::time_point deadline) noexcept {
-        auto since = std::chrono::nanoseconds(deadline.time_since_epoch()).count();
-        timespec at = {time_t(since / 1000000000), long(since % 1000000000)};
+        timespec at = in_c(deadline);
         return recv_by(&at);
     }
     [[nodiscard]] answer recv_for(std::chrono::nanoseconds time) noexcept {
@@ -114,6 +126,7 @@ class receiver : public channel_end<hz_receiver, hz_receiver_clone, hz_receiver_
 
   private:
     friend std::pair<sender, receiver> channel();
+    friend std::pair<sender, receiver> bounded_channel(uint64_t);
     answer recv_by(const timespec *deadline) noexcept {
         answer found = {HZ_BAD_HANDLE, 0};
         found.code = hz_code(hz_recv_by(&end, &found.value, deadline));
@@ -125,6 +138,13 @@ class receiver : public channel_end<hz_receiver, hz_receiver_clone, hz_receiver_
 inline std::pair<sender, receiver> channel() {
     std::pair<sender, receiver> made;
     expect_done(hz_channel(&made.first.end, &made.second.end));
+    return made;
+}
+
+/* A new channel in which at most `bound` values wait. It throws HZ_BAD_BOUND or HZ_NO_MEMORY. */
+inline std::pair<sender, receiver> bounded_channel(uint64_t bound) {
+    std::pair<sender, receiver> made;
+    expect_done(hz_bounded_channel(&made.first.end, &made.second.end, bound));
     return made;
 }
 

@@ -1,12 +1,13 @@
-/* A channel for threads. Any number of senders and receivers share it, and it has no bound. Values are numbers of 64 bits, which
- * may be pointers. All values are in one order, and at most one receiver takes each. Receivers sleep while nothing waits.
+/* A channel for threads. Any number of senders and receivers share it. Values are numbers of 64 bits, which may be pointers. All
+ * values are in one order, and at most one receiver takes each. Receivers sleep while nothing waits. A channel may have a bound.
+ * Then senders sleep while it is full.
  *
  * Link libhazbultra_channel.a, heap.c and channel.c: gcc -pthread your.c heap.c channel.c libhazbultra_channel.a
  * The library that `make` builds has all three in it.
  *
  * WHAT IS PROVED. The archive decides: who takes which value, who has to be woken, and when a receiver may sleep. Its calls are
  * in the second part of this page. They never wait. docs/CONTRACTS.md says what is proved of them. channel.c sleeps and wakes by
- * them. It is only tested.
+ * them, and keeps the bound. It is only tested.
  *
  * WHAT A CALLER OWES. Nothing checks a C caller. What is proved holds only if the caller keeps these five rules:
  *
@@ -21,7 +22,8 @@
  *     no call was running may use the channels that it makes itself.
  *
  * Each end that was made has to be freed, by hz_sender_free or hz_receiver_free. A channel is closed once its last sender is
- * freed, or by hz_close. Its memory is freed with its last end.
+ * freed, or by hz_close. If there is a bound, the last receiver closes it, too. Without a bound, senders do not learn that all
+ * receivers are gone. Its memory is freed with its last end.
  *
  * A VALUE MAY BE A POINTER. Each access to a shared word is seq_cst. So what a thread wrote before it sent a value is seen by the
  * thread that receives it. ThreadSanitizer does not see these accesses: call HZ_BEFORE_PUT(p) before p is sent, and
@@ -50,25 +52,32 @@ typedef struct hz_sleepers hz_sleepers;
 typedef struct {
     hz_end end;
     hz_sleepers *sleepers;
+    uint64_t bound; /* 0 if the channel has none */
 } hz_sender;
 
 typedef struct {
     hz_end end;
     hz_sleepers *sleepers;
+    uint64_t bound;
 } hz_receiver;
 
 #ifdef __cplusplus
 #define HZ_NO_SENDER (hz_sender())
 #define HZ_NO_RECEIVER (hz_receiver())
 #else
-#define HZ_NO_SENDER ((hz_sender){ { false, NULL }, NULL })
-#define HZ_NO_RECEIVER ((hz_receiver){ { false, NULL }, NULL })
+#define HZ_NO_SENDER ((hz_sender){ { false, NULL }, NULL, 0 })
+#define HZ_NO_RECEIVER ((hz_receiver){ { false, NULL }, NULL, 0 })
 #endif
 
 /* Makes a channel with a sender and a receiver. HZ_DONE. HZ_BAD_HANDLE: one of the two leads to something already.
  * HZ_NO_MEMORY. After the last two nothing has changed. */
 HZ_CHECKED HZ_NONNULL
 uint32_t hz_channel(hz_sender *sender, hz_receiver *receiver);
+
+/* The same with a bound: at most so many values wait. HZ_BAD_BOUND: it is 0, and a send that waits for its receiver is not offered.
+ * There are as many permits as the bound says. A value has one of them from before it is sent until after it was received. */
+HZ_CHECKED HZ_NONNULL
+uint32_t hz_bounded_channel(hz_sender *sender, hz_receiver *receiver, uint64_t bound);
 
 /* Makes another end of the same channel. HZ_DONE. HZ_BAD_HANDLE: the first leads to nothing, or the second to something already.
  * HZ_NO_MEMORY. HZ_CROWDED: so many ends were made that they cannot be counted. */
@@ -80,9 +89,14 @@ uint32_t hz_receiver_clone(hz_receiver *receiver, hz_receiver *other);
 /* Sends a value. HZ_DONE: it was sent, and a receiver is woken if one sleeps. Else it was not sent. HZ_CLOSED: the channel is
  * closed, for ever. HZ_NO_MEMORY: there is none for the next values. HZ_CROWDED: so many ends are at one place that they cannot
  * be counted. HZ_BAD_HANDLE: the sender leads to nothing. hz_send waits while other ends are always first, or while one of them
- * adds memory. Then hz_try_send returns HZ_AGAIN. */
+ * adds memory. Then hz_try_send returns HZ_AGAIN.
+ * If there is a bound, hz_send sleeps while all permits are out. hz_send_by sleeps until the deadline, which is as that of
+ * hz_recv_by. It returns HZ_FULL if that came first: at a moment of the call all permits were out. hz_try_send does not sleep, and
+ * returns HZ_FULL at once. */
 HZ_CHECKED HZ_NONNULL
-uint32_t hz_send(hz_sender *sender, uint64_t value);
+static inline uint32_t hz_send(hz_sender *sender, uint64_t value);
+HZ_CHECKED
+uint32_t hz_send_by(hz_sender *sender, uint64_t value, const struct timespec *deadline);
 HZ_CHECKED HZ_NONNULL
 uint32_t hz_try_send(hz_sender *sender, uint64_t value);
 
@@ -107,12 +121,13 @@ uint32_t hz_sender_len(hz_sender *sender, uint64_t *len);
 HZ_CHECKED HZ_NONNULL
 uint32_t hz_receiver_len(hz_receiver *receiver, uint64_t *len);
 
-/* Closes the channel, for ever: nothing can be sent any more, and all receivers that sleep are woken. What waits can still be
+/* Closes the channel, for ever: nothing can be sent any more, and all ends that sleep are woken. What waits can still be
  * received. HZ_DONE. HZ_BAD_HANDLE. */
 HZ_NONNULL
 uint32_t hz_close(hz_sender *sender);
 
-/* Frees an end. The last sender closes the channel. HZ_DONE: the end leads to nothing then. HZ_BAD_HANDLE: it did before. */
+/* Frees an end. The last sender closes the channel, and so does the last receiver if there is a bound. HZ_DONE: the end leads to
+ * nothing then. HZ_BAD_HANDLE: it did before. */
 HZ_NONNULL
 uint32_t hz_sender_free(hz_sender *sender);
 HZ_NONNULL
@@ -184,13 +199,25 @@ uint32_t hz_channel_close(hz_end *sender, hz_wake *wake);
 HZ_CHECKED HZ_NONNULL
 uint32_t hz_channel_free(hz_end *end, hz_wake *wake);
 
-static inline uint32_t hz_recv(hz_receiver *receiver, uint64_t *value) {
-    uint32_t code = hz_channel_try_receive(&receiver->end, value);
-    return code == HZ_NOTHING || code == HZ_AGAIN ? hz_recv_by(receiver, value, NULL) : code;
+/* Gives back the permit of a value that was received. If there is a bound, each receive above calls it, and nobody else has to. */
+HZ_NONNULL
+void hz_give_permit(hz_sleepers *sleepers);
+
+static inline uint32_t hz_send(hz_sender *sender, uint64_t value) {
+    uint32_t code = hz_try_send(sender, value);
+    return code == HZ_AGAIN || code == HZ_FULL ? hz_send_by(sender, value, NULL) : code;
 }
 
 static inline uint32_t hz_try_recv(hz_receiver *receiver, uint64_t *value) {
-    return hz_channel_try_receive(&receiver->end, value);
+    uint32_t code = hz_channel_try_receive(&receiver->end, value);
+    if (code == HZ_TOOK && receiver->bound)
+        hz_give_permit(receiver->sleepers);
+    return code;
+}
+
+static inline uint32_t hz_recv(hz_receiver *receiver, uint64_t *value) {
+    uint32_t code = hz_try_recv(receiver, value);
+    return code == HZ_AGAIN || code == HZ_NOTHING ? hz_recv_by(receiver, value, NULL) : code;
 }
 
 #ifdef __cplusplus

@@ -11,12 +11,14 @@ struct End {
     full: bool,
     at: *mut c_void,
     sleepers: *mut c_void,
+    bound: u64,
 }
 
 const NO_END: End = End {
     full: false,
     at: ptr::null_mut(),
     sleepers: ptr::null_mut(),
+    bound: 0,
 };
 const DONE: u32 = 0;
 const TOOK: u32 = 1;
@@ -27,7 +29,8 @@ unsafe extern "C" {
     fn hz_channel(sender: *mut End, receiver: *mut End) -> u32;
     fn hz_sender_clone(sender: *mut End, other: *mut End) -> u32;
     fn hz_receiver_clone(receiver: *mut End, other: *mut End) -> u32;
-    fn hz_send(sender: *mut End, value: u64) -> u32;
+    fn hz_try_send(sender: *mut End, value: u64) -> u32;
+    fn hz_send_by(sender: *mut End, value: u64, deadline: *const c_void) -> u32;
     fn hz_recv_by(receiver: *mut End, value: *mut u64, deadline: *const c_void) -> u32;
     fn hz_channel_try_receive(receiver: *mut End, value: *mut u64) -> u32;
     fn hz_sender_free(sender: *mut End) -> u32;
@@ -114,7 +117,12 @@ impl<T, const SENDS: bool> Drop for Proved<T, SENDS> {
 
 impl<T: Word + Send> Sending<T> for Proved<T, true> {
     fn send(&self, value: T) {
-        let code = unsafe { hz_send(self.0.get(), value.into_word()) };
+        // (it does what the header's inline `hz_send` does)
+        let word = value.into_word();
+        let mut code = unsafe { hz_try_send(self.0.get(), word) };
+        if code == AGAIN {
+            code = unsafe { hz_send_by(self.0.get(), word, ptr::null()) };
+        }
         assert_eq!(code, DONE, "a receiver is there");
     }
 }

@@ -60,6 +60,19 @@ static void channels() {
     EXPECT(sums[0] + sums[1] == ITEMS * (ITEMS + 1) / 2);
 }
 
+static void bounds() {
+    EXPECT(refused([] { bounded_channel(0); }).code == HZ_BAD_BOUND);
+    auto [jobs, worker] = bounded_channel(2);
+    EXPECT(jobs.send(1) == HZ_DONE && jobs.send_for(2, std::chrono::seconds(1)) == HZ_DONE && jobs.try_send(3) == HZ_FULL);
+    EXPECT(jobs.send_for(3, std::chrono::milliseconds(1)) == HZ_FULL && jobs.len() == 2);
+    EXPECT(worker.try_recv().value == 1 && jobs.try_send(3) == HZ_DONE && worker.recv().value == 2);
+    sender moved = std::move(jobs);
+    EXPECT(jobs.try_send(4) == HZ_BAD_HANDLE && moved.try_send(4) == HZ_DONE && moved.try_send(5) == HZ_FULL);
+    std::thread last([it = std::move(worker)]() mutable { EXPECT(it.recv().value == 3); }); // (it is destroyed with the thread)
+    last.join();
+    EXPECT(moved.send(5) == HZ_CLOSED);
+}
+
 // Takes all that it wins of lane 0, and returns the sum.
 static uint64_t sum_of(consumer &one) {
     for (uint64_t sum = 0;;) {
@@ -124,6 +137,7 @@ int main() {
     bad.last = false;
     EXPECT(std::strcmp(refused([&] { hub made(bad); }).what(), "HZ_BAD_PAIRS") == 0);
     channels();
+    bounds();
     threads();
     moves();
     std::puts("each value and item was taken once, and each handle had one owner");
