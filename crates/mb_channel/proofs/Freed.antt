@@ -1,7 +1,7 @@
 -- All segments that there ever were: first those that are freed, then those of the list.
-use Rattle.std.proofs.Common.{ℕ, zero, suc, List, [], length, sym, refl, ap, subst, arith}
+use Rattle.std.proofs.Common.{ℕ, zero, suc, Bool, true, false, true≢false, List, [], length, sym, refl, ap, subst, inl, inr, ⊎_elim, arith}
 use Rattle.std.proofs.Common.{◌≡◌, ◌+◌, ◌-◌, ◌<◌, ◌≤◌, ◌∷◌, ◌++◌, ◌∙◌}
-use Rattle.std.specs.Prelude.{slice_set, Result, Ok, Err, IfOk, OnErr}
+use Rattle.std.specs.Prelude.{slice_set, Option, Some, None, SomeIff, IfSome, Result, Ok, Err, IfOk, OnErr}
 use Rattle.std.proofs.lemmas.List.{append_assoc, length-append}
 use native.Mathlib.Decide.{dec_le}
 use mathlib.Core.Option.{some, some-ne-none}
@@ -9,6 +9,7 @@ use lib.ListN.{get_elem?}
 use Rattle.atomic_table.proofs.Lists.{at_longer}
 use Rattle.mb_channel.specs.Types.{Home, Homes}
 use Rattle.mb_channel.specs.Homes.{AllHomes, At, Changes, IsBusy, IsFreed, IsNew, IsNext, Longer, Stands, out_of}
+use Rattle.mb_channel.specs.Tallies.{GoesOnTo}
 
 module _ {A : Type 0} where
   behind : (xs ys : List A) (k : ℕ) → length xs ≤ k → get_elem? (xs ++ ys) k ≡ get_elem? ys (k - length xs)
@@ -107,6 +108,36 @@ module _ {T : Type 0} where
       let number = s.number in
       let n = length-append s.gone l.list.items in
       let e = ap length s.all in omega arith
+
+  -- where an end goes on to, to receive too or to send alone
+  pub goes_first : (b : Bool) (l : Homes T) → b ≡ true → (hs : List (Home T)) → Stands hs l → GoesOnTo b hs l.first
+  goes_first true l e hs s = next_is hs l s
+  goes_first false l e hs s = absurd (true≢false (sym e))
+
+  last_is : (hs : List (Home T)) (l : Homes T) (k : ℕ) → Stands hs l → k ≡ l.first + (length l.list.items - 1)
+      → GoesOnTo false hs k
+  last_is hs l k s e = go (length l.list.items) refl
+    where
+      go : (n : ℕ) → length l.list.items ≡ n → GoesOnTo false hs k
+      go zero none_ = (
+          let same : l.first ≡ k = omega arith in
+          inr (all_long hs l k s (omega arith) (omega arith), subst (λ i. IsNext hs i) same (next_is hs l s))
+          )
+      go (suc n) more = inl (sym (all_long hs l (suc k) s (omega arith) (omega arith)))
+
+  pub goes_last : (b : Bool) (l : Homes T) (n : ℕ) (P : Type 0) (r : Option ℕ) → b ≡ false
+      → n ≡ length l.list.items - 1 → SomeIff r P (l.first + n)
+      → IfSome r (λ k. (l.first ≤ k) × ((hs : List (Home T)) → Stands hs l → GoesOnTo b hs k))
+  goes_last b l n P None e last r = tt
+  goes_last true l n P (Some k) e last r = absurd (true≢false e)
+  goes_last false l n P (Some k) e last r = let x = r.1 in (omega arith, λ hs s. last_is hs l k s (omega arith))
+
+  -- an end that is there, and is to send alone, is in the last
+  pub only_last : (b : Bool) (hs : List (Home T)) (k n : ℕ) → b ≡ false → GoesOnTo b hs k → k ≤ n → n < length hs
+      → suc n ≡ length hs
+  only_last true hs k n e on le lt = absurd (true≢false e)
+  only_last false hs k n e on le lt = ⊎_elim (λ (x : suc k ≡ length hs). omega arith)
+      (λ (x : (length hs ≡ k) × IsNext hs k). let y = x.0 in absurd (omega arith)) on
 
   -- ---- the list changes
   stands_set : (hs : List (Home T)) (l m : Homes T) (k : ℕ) (g : Home T) → Stands hs l → l.first ≤ k

@@ -11,6 +11,7 @@ use Rattle.mb_segment.specs.Vocabulary.{hub_view, is_over}
 use Rattle.mb_channel.specs.Types.{Account, Arc, Global, Home, Homes, Knows, Pass, Segment, View, Visit}
 use Rattle.mb_channel.specs.Homes.{Agrees, AreLed, AreOver, At, Falls, Grows, HasIssued, IsDone, IsNear, IsNext, IsOver, IsShare, Keeps, Made, MayGive, Sat, Stands}
 use Rattle.mb_channel.specs.Homes.{came_back, came_to, is_in, left_segment, made_by, made_in, out_of, total, unlocked, went_on}
+use Rattle.mb_channel.specs.Tallies.{GoesOnTo}
 use Rattle.mb_channel.proofs.Moves.{ended_stay, grows_same, led_grows, near_grows, next_grows, over_grows, still_told, unlocks}
 use Rattle.mb_channel.proofs.Views.{below_total, by_other, by_own, in_else, in_here, in_none, in_other, in_own, made_map, size_set, there}
 
@@ -216,22 +217,35 @@ module _ {T : Type 0} where
   falls_more b c [] le f = tt
   falls_more b c (v ∷ vs) le f = (let x = f.0 in omega arith, f.1)
 
-  near_next : (hs : List (Home T)) (k : ℕ) → IsNext hs k → IsNear hs k
-  near_next hs zero n = inl refl
-  near_next hs (suc j) n = let a = n j (omega arith) in inr (j, refl, (a.0, a.1, tt))
+  near_over : (hs : List (Home T)) (k : ℕ) → AreOver hs k → IsNear hs k
+  near_over hs zero o = inl refl
+  near_over hs (suc j) o = let a = o j (omega arith) in inr (j, refl, (a.0, a.1, tt))
 
-  -- all segments before place j are freed
-  pub unlocks_on : (j slots id : ℕ) (me : Sat T) (y : Homes T) (hs : List (Home T)) → Stands hs y
+  next_over : (hs : List (Home T)) (k : ℕ) → IsNext hs k → AreOver hs k
+  next_over hs k next j lt = let d = next j lt in (d.0, d.1, done_over d.0 d.2)
+
+  -- all before where an end goes on to is over
+  on_over : (b : Bool) (hs : List (Home T)) (k : ℕ) → AreLed hs → GoesOnTo b hs k → AreOver hs k
+  on_over true hs k led on = next_over hs k on
+  on_over false hs k led on = ⊎_elim (λ (e : suc k ≡ length hs). λ j lt. led j (omega arith))
+      (λ (n : (length hs ≡ k) × IsNext hs k). next_over hs k n.1) on
+
+  on_next : (b : Bool) (hs : List (Home T)) (k : ℕ) → b ≡ true → GoesOnTo b hs k → IsNext hs k
+  on_next true hs k e on = on
+  on_next false hs k e on = absurd (true≢false (sym e))
+
+  pub unlocks_on : (b : Bool) (j slots id : ℕ) (me : Sat T) (y : Homes T) (hs : List (Home T)) → Stands hs y
       → me.1 ≡ (0, y) ∷ [] → me.0.live ≡ true → me.0.holds ≡ true → me.0.inside ≡ false → hs ≡ me.0.before
-      → me.0.at < j → IsNext me.0.before j → MayGive (went_on j) slots id me
-  unlocks_on j slots id me y hs stands carried live holds outside is far next = unlocks
-      (went_on j) slots id me y hs stands carried live holds refl refl refl refl refl refl
+      → me.0.at < j → GoesOnTo b me.0.before j → MayGive (went_on j b) slots id me
+  unlocks_on b j slots id me y hs stands carried live holds outside is far on = unlocks
+      (went_on j b) slots id me y hs stands carried live holds refl refl refl refl refl refl
       (λ s k at part before.
       let v = me.0 in
       let f = k.fits id v at in
-      let w = went_on j (unlocked v) in
+      let w = went_on j b (unlocked v) in
       let now : k.homes ≡ hs = sym before ∙ sym is in
-      let there_ : IsNext hs j = subst (λ l. IsNext l j) (sym is) next in (
+      let there_ : GoesOnTo b hs j = subst (λ l. GoesOnTo b l j) (sym is) on in
+      let over = on_over b hs j (subst (λ l. AreLed l) now k.leads) there_ in (
         k.all,
         subst (λ l. Grows k.homes l) now (grows_same k.homes),
         subst (λ l. AreLed l) now k.leads,
@@ -245,14 +259,14 @@ module _ {T : Type 0} where
         record {
           named = f.named;
           falls = falls_more v.at j v.visits (omega arith) f.falls;
-          near = near_next hs j there_;
+          near = near_over hs j over;
           inside = λ q. absurd (true≢false (sym q ∙ outside));
-          takes = λ _. there_;
+          takes = λ q. on_next b hs j q there_;
           newborn = λ q. absurd (true≢false (sym live ∙ q));
           idle = λ z. absurd (omega arith);
           ended = ended_stay s k id v w at part k.all (λ n _. refl);
         },
         still_told s k id v w hs at (subst (λ l. Grows k.homes l) now (grows_same k.homes)) (ap length (sym now)) refl
             (λ q. absurd (true≢false (sym q))) (λ q. absurd (true≢false (sym q))) refl refl refl
-            (λ _ i lt. let d = there_ i lt in (d.0, d.1, done_over d.0 d.2)),
+            (λ _. over),
       ))

@@ -309,9 +309,9 @@ left_segment x done v = record v {
   orderly = v.orderly && is_over x;
 }
 
--- all segments before k are freed: it goes on to that one, and may receive there
-abbrev pub went_on : {T : Type 0} → ℕ → Knows T → Knows T
-went_on k v = record v { at = k; takes = true }
+-- it goes on to segment k: to the oldest that is not freed if it may receive there, else to the last
+abbrev pub went_on : {T : Type 0} → ℕ → Bool → Knows T → Knows T
+went_on k b v = record v { at = k; takes = b }
 
 -- it has come to its segment, of which this is its share, and may receive there or not
 abbrev pub came_to : {T : Type 0} → Arc (Segment T Global) Global → Bool → Knows T → Knows T

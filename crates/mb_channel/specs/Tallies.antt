@@ -1,8 +1,8 @@
 -- The numbers of ends, senders and receivers, and the end of the list.
-use Rattle.std.specs.Prelude.{ℕ, suc, Bool, Some, false, true, length, if◌then◌else◌, ◌+◌, ◌-◌, ◌≡◌, ◌≢◌, ◌≤◌, ◌⊎◌}
+use Rattle.std.specs.Prelude.{ℕ, suc, Bool, List, Some, false, true, length, if◌then◌else◌, ◌+◌, ◌-◌, ◌≡◌, ◌≢◌, ◌≤◌, ◌⊎◌}
 use Rattle.atomic_table.specs.Table.{Step}
-use Rattle.mb_channel.specs.Types.{Homes, Knows}
-use Rattle.mb_channel.specs.Homes.{Sat}
+use Rattle.mb_channel.specs.Types.{Home, Homes, Knows}
+use Rattle.mb_channel.specs.Homes.{IsNext, Sat}
 
 abbrev pub gets_number : {T : Type 0} → Step (Homes T) → Sat T → ℕ → Sat T → Type 0
 gets_number st m r n = (id : ℕ) × (n ≡ (record m.0 { live = true; number = id }, m.1))
@@ -42,6 +42,11 @@ saw_open v = record v { is_open = v.holds }
 -- it has the lock, and is behind the last segment
 abbrev pub IsLast : {T : Type 0} → Knows T → Type 0
 IsLast v = (v.holds ≡ true) × (length v.before ≡ v.at)
+
+-- where an end goes on to. All before that is done, or the end is to send alone and that is the last segment
+abbrev pub GoesOnTo : {T : Type 0} → Bool → List (Home T) → ℕ → Type 0
+GoesOnTo true hs k = IsNext hs k
+GoesOnTo false hs k = (suc k ≡ length hs) ⊎ ((length hs ≡ k) × IsNext hs k)
 
 -- if it may receive there, it counts that
 abbrev pub found_none : {T : Type 0} → Knows T → Knows T

@@ -6,8 +6,8 @@ use mb_segment::Pass;
 pub enum Came<T: Drop> {
     /// It has a pass of the segment now.
     Here(Shared<T>, Pass<T>),
-    /// The segment is freed, and so are all before the one of this number: nothing waits in them, for ever. The end goes
-    /// on to that one.
+    /// The end goes on to the segment of this number: to the oldest that is not freed, or, if it comes to send alone, to
+    /// the last one.
     Gone(usize),
     /// There is no such segment yet: the end adds none, or the allocator refused the memory.
     NotYet,

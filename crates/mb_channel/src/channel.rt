@@ -54,8 +54,8 @@ impl<T: Drop> End<T> {
                 self.inside = Some(Inside { segment, pass });
                 Ok(true)
             }
-            Came::Gone(first) => {
-                self.at = first;
+            Came::Gone(next) => {
+                self.at = next;
                 Ok(true)
             }
             // A receiver waits for memory, which any end may free.

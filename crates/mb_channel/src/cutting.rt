@@ -1,4 +1,4 @@
-//! Closing a channel. Whoever closes it goes on to behind the last segment, and cuts each on the way.
+//! Closing a channel. Whoever closes it goes on to behind the last segment, and cuts each to which it comes.
 ghost use Rattle.std.specs.Prelude.{ℕ, ◌≡◌, ◌++◌, ◌∷◌, [], true, false};
 ghost use Rattle.mb_segment.specs.Vocabulary.{is_over};
 ghost use Rattle.mb_channel.specs.Inside.{account_in, told_in};
@@ -46,8 +46,8 @@ impl<T: Drop> End<T> {
 }
 
 impl<T: Drop> End<T> {
-    /// Cuts the segment where the end is and all behind it, in a list that is closed or has no sender. The end is then
-    /// behind the last. It may not receive from then on.
+    /// Cuts the segment where the end is and each to which it comes, in a list that is closed or has no sender. The end
+    /// is then behind the last, and all are over. It may not receive from then on.
     pub(crate) fn cut_all<R: Wait>(&mut self, rt: &R)
         ensures end { IsSame self.old self.new }
         ensures behind { IsBehind self.new }

@@ -3,6 +3,7 @@ ghost use Rattle.std.specs.Prelude.{◌≡◌, ◌<◌, ◌≤◌, ◌-◌, leng
 ghost use Rattle.mb_segment.specs.Seats.{view_in as pass_view};
 ghost use Rattle.mb_segment.specs.Vocabulary.{HasLeft, IsFree, IsWhole as SegmentIsWhole, blank};
 ghost use Rattle.mb_channel.specs.Homes.{At, Changes, HasIssued, HasTakenBack, IsDone, IsFreed, IsNew, Stands, came_back, out_of};
+ghost use Rattle.mb_channel.specs.Tallies.{GoesOnTo};
 ghost use Rattle.mb_channel.specs.declared.home.Home.{Home};
 
 use crate::home::{Home, Homes, Shared};
@@ -129,6 +130,17 @@ impl<T: Drop> Homes<T> {
         ensures first { self.new.first ≡ self.old.first }
     {
         self.list[at - self.first].take_back(pass, over)
+    }
+
+    /// The first segment that an end may come to: the oldest, or to send alone the last. `None` if it cannot be counted.
+    pub(crate) fn first_for(&self, takes: bool) -> Option<usize>
+        ensures { IfSome result (λ k. (self.now.first ≤ k)
+            × ((hs : List (Home T)) → Stands hs self.now → GoesOnTo takes hs k)) }
+    {
+        if takes {
+            return Some(self.first);
+        }
+        self.first.checked_add(self.list.len().saturating_sub(1))
     }
 
     /// The segment at this place of the list issues a pass.

@@ -1,11 +1,11 @@
 //! An end comes to a segment of the list, and leaves it.
-ghost use Rattle.std.specs.Prelude.{◌≡◌, ◌<◌, ◌≤◌, ◌⊎◌, [], length, true, false, IfOk, IfErr};
+ghost use Rattle.std.specs.Prelude.{suc, ◌≡◌, ◌<◌, ◌≤◌, ◌⊎◌, [], length, true, false, IfOk, IfErr};
 ghost use Rattle.std.specs.Arc.{arc_value};
 ghost use Rattle.mb_segment.specs.Seats.{view_in as pass_view};
 ghost use Rattle.mb_segment.specs.Vocabulary.{IsFree, blank};
-ghost use Rattle.mb_channel.specs.Homes.{At, Changes, HasIssued, HasTakenBack, HoldsHomes, IsNext, IsPassOf, IsReady};
+ghost use Rattle.mb_channel.specs.Homes.{At, Changes, HasIssued, HasTakenBack, HoldsHomes, IsPassOf, IsReady};
 ghost use Rattle.mb_channel.specs.Homes.{MayGive, came_to, left_segment, out_of, unlocked, view_in, went_on};
-ghost use Rattle.mb_channel.specs.Tallies.{KnowsLast, found_none, told_last};
+ghost use Rattle.mb_channel.specs.Tallies.{GoesOnTo, KnowsLast, found_none, told_last};
 ghost use Rattle.mb_channel.specs.Answers.{OfCame};
 
 use crate::answers::Came;
@@ -101,8 +101,8 @@ impl<T: Drop> List<T> {
         Ok(self.part::<Brand>(chair, at, pass, over))
     }
 
-    /// The segment at this place issues a pass, if it is there.
-    fn get_pass(&self, chair: &mut Chair<T>, at: usize) -> Came<T>
+    /// The segment at this place issues a pass, if it is there. Of an end that comes to send alone it has to be the last.
+    fn get_pass(&self, chair: &mut Chair<T>, at: usize, takes: bool) -> Came<T>
         requires list { chair.old.table_id ≡ self.now.table.shared.table_id }
         requires homes { HoldsHomes chair.old.me (λ hs. hs ≡ (view_in chair.old).before) }
         ensures list { (chair.new.table_id ≡ chair.old.table_id) × (chair.new.id ≡ chair.old.id) }
@@ -110,17 +110,21 @@ impl<T: Drop> List<T> {
         ensures answer { OfCame result
             (λ s p. HoldsHomes chair.new.me (λ hs.
             Changes (view_in chair.old).before hs at (λ h g. HasIssued h g s p))
-            × (pass_view p ≡ blank) × IsFree p)
+            × (pass_view p ≡ blank) × IsFree p
+            × (takes ≡ false → suc at ≡ length (view_in chair.old).before))
             (λ k. HoldsHomes chair.new.me (λ hs. hs ≡ (view_in chair.old).before)
-            × (at < k) × IsNext (view_in chair.old).before k)
+            × (at < k) × GoesOnTo takes (view_in chair.old).before k)
             (HoldsHomes chair.new.me (λ hs. hs ≡ (view_in chair.old).before)
             × (length (view_in chair.old).before ≤ at))
             ⊥
             (HoldsHomes chair.new.me (λ hs. hs ≡ (view_in chair.old).before)) }
     {
         let homes = chair.slot_mut(&self.table.shared, 0);
-        if at < homes.first {
-            Came::Gone(homes.first)
+        let Some(next) = homes.first_for(takes) else {
+            return Came::Crowded;
+        };
+        if at < next {
+            Came::Gone(next)
         } else if at - homes.first < homes.list.len() {
             match homes.issue(at - homes.first) {
                 Some((segment, pass)) => Came::Here(segment, pass),
@@ -158,19 +162,21 @@ impl<T: Drop> List<T> {
         self.give::<F>(chair);
     }
 
-    /// Goes on to the oldest segment that is not freed, and gives the lock back.
-    fn go_on<F: Change<T>>(&self, chair: &mut Chair<T>, first: usize)
+    /// Goes on to the oldest segment that is not freed, or to the last to send alone, and gives the lock back.
+    fn go_on<F: Change<T>>(&self, chair: &mut Chair<T>, next: usize, takes: bool)
         requires list { chair.old.table_id ≡ self.now.table.shared.table_id }
-        requires picked { F.of ≡ went_on first }
+        requires picked { F.of ≡ went_on next takes }
         requires held { ((view_in chair.old).live ≡ true) × ((view_in chair.old).holds ≡ true)
             × ((view_in chair.old).inside ≡ false) }
         requires homes { HoldsHomes chair.old.me (λ hs. hs ≡ (view_in chair.old).before) }
-        requires far { ((view_in chair.old).at < first) × IsNext (view_in chair.old).before first }
+        requires far { ((view_in chair.old).at < next)
+            × GoesOnTo takes (view_in chair.old).before next }
         ensures list { (chair.new.table_id ≡ chair.old.table_id) × (chair.new.id ≡ chair.old.id) }
-        ensures view { (view_in chair.new ≡ went_on first (unlocked (view_in chair.old)))
+        ensures view { (view_in chair.new ≡ went_on next takes (unlocked (view_in chair.old)))
             × (chair.new.me.1 ≡ []) }
     {
-        let _ = first;
+        let _ = next;
+        let _ = takes;
         self.give::<F>(chair);
     }
 
@@ -242,7 +248,7 @@ impl<T: Drop> List<T> {
             × (p.seat.table_id ≡ (arc_value s).table.shared.table_id)
             × (pass_view p ≡ blank) × IsFree p)
             (λ k. (at < k) × (chair.new.me.1 ≡ [])
-            × (view_in chair.new ≡ went_on k (unlocked (view_in chair.old))))
+            × (view_in chair.new ≡ went_on k takes (unlocked (view_in chair.old))))
             ((chair.new.me.1 ≡ []) × (view_in chair.new ≡ found_none (view_in chair.old)))
             ((chair.new.me.1 ≡ []) × KnowsLast at (view_in chair.old) (view_in chair.new))
             (chair.new.me ≡ chair.old.me) }
@@ -250,14 +256,14 @@ impl<T: Drop> List<T> {
         if !self.try_lock(chair) {
             return Came::Locked;
         }
-        match self.get_pass(chair, at) {
+        match self.get_pass(chair, at, takes) {
             Came::Here(segment, pass) => {
                 self.enter::<Brand>(chair, &segment, &pass, takes);
                 Came::Here(segment, pass)
             }
-            Came::Gone(first) => {
-                self.go_on::<Brand>(chair, first);
-                Came::Gone(first)
+            Came::Gone(next) => {
+                self.go_on::<Brand>(chair, next, takes);
+                Came::Gone(next)
             }
             Came::NotYet | Came::Added => self.tell(chair, at, adds),
             Came::Closed => {

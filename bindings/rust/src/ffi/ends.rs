@@ -100,8 +100,8 @@ impl Drop for End {
 }
 
 /// What a thread does after so many tries that others were first at: some microseconds, and now and then a yield. With less,
-/// threads that wait take the lines of memory from those that work. With more yields, an end that is many segments behind
-/// would come no nearer: it goes on by a few of them at a time.
+/// threads that wait take the lines of memory from those that work. With more yields, a receiver that is many segments
+/// behind would come no nearer: it goes on by a few of them at a time.
 pub(super) fn pause(turn: u32) {
     if turn % 16 == 15 {
         return thread::yield_now();

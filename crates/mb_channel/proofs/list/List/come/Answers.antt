@@ -4,7 +4,8 @@ use Rattle.mb_channel.specs.Types.{Arc, Global, Pass, Segment}
 use Rattle.mb_channel.specs.declared.answers.Came.{Came}
 use Rattle.mb_channel.specs.declared.answers.Came.TheVariants.{Added, NotYet}
 use Rattle.mb_channel.specs.declared.view.Knows.{Knows}
-use Rattle.mb_channel.specs.Homes.{Changes, HasIssued, IsNext, came_to, unlocked, went_on}
+use Rattle.mb_channel.specs.Homes.{Changes, HasIssued, came_to, unlocked, went_on}
+use Rattle.mb_channel.specs.Tallies.{GoesOnTo}
 use Rattle.mb_channel.proofs.Chairs.{came_where}
 use Rattle.mb_channel.proofs.Closing.{near_last}
 use Rattle.mb_channel.proofs.list.List.come.Goals as goal
@@ -60,8 +61,9 @@ pub go_on-requires-clause-far : goal.go_on-requires-clause-far
 go_on-requires-clause-far g c = let x = c.try_lock.ensures.locked c.if-not-try_lock.false in
     let a = c.in-Gone.ensures.answer in
     let same = c.get_pass.ensures.view ∙ x.4.1 in (
-      subst (λ n. n < c.in-Gone.first) (sym (ap (λ (v : Knows _). v.at) same ∙ c.requires.here.0)) a.1,
-      subst (λ b. IsNext b c.in-Gone.first) (ap (λ (v : Knows _). v.before) (sym c.get_pass.ensures.view)) a.2,
+      subst (λ n. n < c.in-Gone.next) (sym (ap (λ (v : Knows _). v.at) same ∙ c.requires.here.0)) a.1,
+      subst (λ b. GoesOnTo c.args.takes b c.in-Gone.next)
+          (ap (λ (v : Knows _). v.before) (sym c.get_pass.ensures.view)) a.2,
     )
 
 pub unlock-requires-clause-homes : goal.unlock-requires-clause-homes
@@ -109,5 +111,5 @@ returns-in-Gone-clause-answer g c = let x = c.try_lock.ensures.locked c.if-not-t
     let a = c.in-Gone.ensures.answer in let e = c.go_on.ensures.view in (
       a.1,
       e.1,
-      e.0 ∙ ap (λ (z : Knows _). went_on c.in-Gone.first (unlocked z)) (c.get_pass.ensures.view ∙ x.4.1),
+      e.0 ∙ ap (λ (z : Knows _). went_on c.in-Gone.next c.args.takes (unlocked z)) (c.get_pass.ensures.view ∙ x.4.1),
     )

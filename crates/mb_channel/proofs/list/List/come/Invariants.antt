@@ -5,4 +5,4 @@ abbrev pub ghosts-enter : goal.ghosts-enter
 ghosts-enter g a = record { of = came_to a.segment.now a.takes }
 
 abbrev pub ghosts-go_on : goal.ghosts-go_on
-ghosts-go_on g a = record { of = went_on a.first }
+ghosts-go_on g a = record { of = went_on a.next a.takes }
