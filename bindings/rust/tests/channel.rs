@@ -53,13 +53,14 @@ fn a_clone_of_a_receiver_begins_where_values_are_left() {
 /// An end far behind the others comes to them in more than one call of the archive.
 #[test]
 fn ends_that_are_far_behind_come_nearer() {
+    const ALL: usize = 64 + 4 * 1024; // (they fill the last segment)
     let (sender, receiver) = unbounded();
     let (late, later) = (sender.clone(), receiver.clone());
     (0..20).for_each(|it| late.send(it).unwrap()); // (so it has a place of its own there)
-    (20..5000).for_each(|it| sender.send(it).unwrap());
-    late.send(5000).unwrap();
+    (20..ALL).for_each(|it| sender.send(it).unwrap());
+    late.send(ALL).unwrap();
     assert!(receiver.try_iter().take(2000).eq(0..2000));
-    assert!(later.try_iter().eq(2000..5001));
+    assert!(later.try_iter().eq(2000..=ALL));
 }
 
 #[test]

@@ -57,17 +57,6 @@ impl<E> Place<E> {
 }
 
 impl<T> Place<Inlet<T>> {
-    /// Whether it was used since somebody last looked whether the end does nothing. (If it is in use now, that is not known.)
-    pub(super) fn is_busy(&self) -> bool {
-        let kept = self.0.try_hold();
-        kept.is_some_and(|it| it.count + it.misses != it.seen)
-    }
-
-    /// Another inlet, which begins where this one is, if there is memory for it.
-    pub(super) fn another(&self) -> Option<Inlet<T>> {
-        self.hold().end.another()
-    }
-
     #[inline]
     pub(super) fn send(&self, value: T, who: u64) -> Result<(), Unsent<T>> {
         let mut kept = self.hold();

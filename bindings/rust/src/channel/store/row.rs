@@ -147,23 +147,13 @@ impl<T> Row<T> {
 
     /// A sender goes.
     pub(crate) fn leave_desk(&self, desk: &Arc<Desk<T>>) {
-        if lock(&self.standing).desks.remove(desk) {
-            self.come_nearer(desk);
-        }
+        lock(&self.standing).desks.remove(desk);
     }
 
     /// A receiver goes.
     pub(crate) fn leave_seat(&self, seat: &Arc<Seat<T>>) {
         if lock(&self.standing).seats.remove(seat) {
             self.tidy();
-        }
-    }
-
-    /// Lets new inlets begin where this desk is, and not before all values that wait.
-    fn come_nearer(&self, desk: &Desk<T>) {
-        if let Some(near) = desk.another() {
-            let far = mem::replace(&mut lock(&self.home).inlet, near);
-            drop(far);
         }
     }
 
@@ -335,9 +325,6 @@ impl<T> Row<T> {
             return;
         }
         standing.due = 0;
-        if let Some(near) = standing.desks.iter().find(|it| it.is_busy()) {
-            self.come_nearer(near);
-        }
         let mut home = lock(&self.home);
         let Home { inlet, outlet } = &mut *home;
         let desks = standing.desks.iter().chain([&self.lane]);
