@@ -65,7 +65,7 @@ IsReceiving (held.OfLeaving l) = Unit {0}
 IsReceiving (held.OfAsleep a) = Unit {0}
 IsReceiving _ = ⊥
 
--- it counts for no sender any more. It is to cut all segments before it has gone exactly if it knows that no sender is left
+-- it counts for no sender any more. It is to see that all segments are over before it has gone exactly if it knows that no sender is left
 abbrev pub HasRetired : {T : Type 0} → Held T → Type 0
 HasRetired (held.OfDeparting d) = ((view_of d.end).sends ≡ 0) × (d.last ≡ (view_of d.end).alone)
 HasRetired (held.OfCutter c) = (c.debtor.chair.me.0.sends ≡ 0) × (c.debtor.chair.me.0.alone ≡ true)

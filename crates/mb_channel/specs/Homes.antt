@@ -309,7 +309,7 @@ left_segment x done v = record v {
   orderly = v.orderly && is_over x;
 }
 
--- it goes on to segment k: to the oldest that is not freed if it may receive there, else to the last
+-- it goes on to segment k (`GoesOnTo`), and may receive there or not
 abbrev pub went_on : {T : Type 0} → ℕ → Bool → Knows T → Knows T
 went_on k b v = record v { at = k; takes = b }
 

@@ -7,7 +7,7 @@ pub enum Came<T: Drop> {
     /// It has a pass of the segment now.
     Here(Shared<T>, Pass<T>),
     /// The end goes on to the segment of this number: to the oldest that is not freed, or, if it comes to send alone, to
-    /// the last one.
+    /// the last one. If all are freed, it goes on to behind them.
     Gone(usize),
     /// There is no such segment yet: the end adds none, or the allocator refused the memory.
     NotYet,

@@ -92,7 +92,7 @@ impl<T: Drop> End<T> {
 
 impl<T: Drop> Sender<T> {
     /// Closes the channel, for ever: no more can be sent, and each later send of this end is refused. All receivers that
-    /// sleep are woken, and what is left can be received.
+    /// sleep are woken, perhaps by an end that filled a segment and is not done. What is left can be received.
     pub fn close<R: Wait>(&mut self, rt: &R)
         ensures end { IsSame self.old.end self.new.end }
         ensures closed { (view_of self.new.end).shut ≡ true }

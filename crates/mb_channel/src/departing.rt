@@ -20,7 +20,7 @@ use mb_segment::Cut;
 #[derive(Drop)]
 pub struct Departing<T: Drop> {
     pub(crate) end: End<T>,
-    /// Whether no sender is left, so that it has to cut all segments.
+    /// Whether no sender is left, so that it has to cut the last segment.
     pub(crate) last: bool,
 }
 
@@ -106,7 +106,7 @@ impl<T: Drop> End<T> {
     }
 
     /// Tries to cut the segment where the end is, and to come to the next one, in a list that is closed or has no
-    /// sender. In `Ok` it tells whether the end is behind the last segment, so that all are cut.
+    /// sender. In `Ok` it tells whether the end is behind the last segment, so that all are over.
     fn cut_some(self) -> Result<(End<T>, bool), Debtor<T>>
         ensures rest { IfOk result (λ r. NoMore (stand_of self) (stand_of r.0)
             × (r.1 ≡ true → IsBehind r.0) × Tells 0 (wakes_of self) (wakes_of r.0)) }
@@ -127,8 +127,8 @@ impl<T: Drop> End<T> {
 
 impl<T: Drop> Sender<T> {
     /// Tries to close the channel, for ever. In `Ok` it tells whether that is done: no more can be sent, and each later
-    /// send of this end is refused. If it is `false`, the lock is taken, or there are further segments: yield, and try
-    /// again. In `Err` receivers may have to be woken: pay, and try again.
+    /// send of this end is refused. If it is `false`, the lock is taken, or the last segment is still to come: yield, and
+    /// try again. In `Err` receivers may have to be woken: pay, and try again.
     pub fn try_close(self) -> Result<(Sender<T>, bool), Owing<T>>
         ensures rest { IfOk result (λ r. NoMore (stand_of self.end) (stand_of r.0.end)
             × (r.1 ≡ true → ((view_of r.0.end).shut ≡ true) × IsBehind r.0.end)
@@ -176,9 +176,9 @@ impl<T: Drop> Receiver<T> {
 }
 
 impl<T: Drop> Departing<T> {
-    /// Tries to go: leaves the segment where the end is, and before that cuts all segments if no sender is left. `Ok`
-    /// has `None` once it has gone. That takes a call more after all is cut. Else the lock is taken, or there are
-    /// further segments: yield, and try again. In `Err` receivers may have to be woken: pay, and try again.
+    /// Tries to go: leaves the segment where the end is. If no sender is left, it first cuts that and the last one. `Ok`
+    /// has `None` once it has gone. That takes a call more after all are over. Else the lock is taken, or the last
+    /// segment is still to come: yield, and try again. In `Err` receivers may have to be woken: pay, and try again.
     pub fn try_go(self) -> Result<Option<Departing<T>>, Cutter<T>>
         ensures rest { IfOk result (λ o. IfSome o (λ d. NoMore (stand_of self.end) (stand_of d.end)
             × (d.last ≡ self.last) × Tells 0 (wakes_of self.end) (wakes_of d.end))) }

@@ -1,4 +1,4 @@
-//! Ends are given back to one another. Whoever takes the last sender away cuts all segments.
+//! Ends are given back to one another. Whoever takes the last sender away sees to it that all segments are over.
 ghost use Rattle.std.specs.Prelude.{◌≡◌, ◌++◌, ◌∷◌, ◌+◌, ◌<◌, ◌≤◌, ◌||◌, false, true, is_some, IfErr, IfNone, IfOk, IfSome};
 ghost use Rattle.std.specs.Arc.{arc_value};
 ghost use Rattle.mb_channel.specs.Homes.{IsReady, past_of, view_in};
@@ -139,8 +139,8 @@ impl<T: Drop> End<T> {
 }
 
 impl<T: Drop> Receiver<T> {
-    /// Takes back a sender. It tells whether it was the last one. Then no more can be sent, for ever, all receivers that
-    /// sleep are woken, and what is left can be received.
+    /// Takes back a sender. It tells whether it was the last one. Then no more can be sent, for ever, and all receivers
+    /// that sleep are woken, as by [`Sender::close`]. What is left can be received.
     pub fn give_sender<R: Wait>(&mut self, rt: &R, sender: Sender<T>) -> bool
         requires channel { AreOfOneChannel self.old.end sender.end }
         ensures channel { AreOfOneChannel self.old.end self.new.end }

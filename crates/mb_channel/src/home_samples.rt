@@ -10,6 +10,7 @@ ghost use Rattle.mb_channel.specs.Homes.{Agrees, Fits, FitsEnd, HasIssued, HasTa
 ghost use Rattle.mb_channel.specs.Homes.{Made, came_back, first_view, out_of, spent_view};
 ghost use Rattle.mb_channel.specs.Inside.{known_there};
 ghost use Rattle.mb_channel.specs.LifeSamples.{one_got, one_sent, position, two_sent};
+ghost use Rattle.mb_channel.specs.Tallies.{GoesOnTo};
 ghost use Rattle.mb_channel.specs.Told.{KeepsOrder};
 ghost use Rattle.mb_channel.specs.declared.end.End.{End};
 ghost use Rattle.mb_channel.specs.Types.{Arc, Global, Home, Homes, Knows, Pass, Segment, View};
@@ -34,6 +35,15 @@ pub fn sample_leaving()
         → MayLeave v (v.before ++ h ∷ []) → ⊥ }
     ensures elsewhere { (v : Knows ℕ) (h : Home ℕ) → (length v.before ≡ v.at → ⊥)
         → MayLeave v (v.before ++ h ∷ []) → ⊥ }
+{}
+
+/// Where an end goes on to. Admitted: the last segment, to send alone, and one behind a segment that is done, to receive.
+/// Refused: one before the last, to send alone, and one behind a segment that is not done, to receive.
+pub fn sample_going()
+    ensures last { (h g : Home ℕ) → GoesOnTo false (h ∷ g ∷ []) 1 }
+    ensures done { (h : Home ℕ) → IsDone h → GoesOnTo true (h ∷ []) 1 }
+    ensures middle { (h g : Home ℕ) → GoesOnTo false (h ∷ g ∷ []) 0 → ⊥ }
+    ensures undone { (h : Home ℕ) → (IsDone h → ⊥) → GoesOnTo true (h ∷ []) 1 → ⊥ }
 {}
 
 /// What an end that may add a segment says of the list. Admitted: an open list, of which no end was told that it never
