@@ -159,20 +159,21 @@ WEAK uint32_t hz_recv_by(hz_receiver *from, uint64_t *value, const struct timesp
 
 /* HZ_DONE: it has a permit. HZ_FULL. HZ_CLOSED. */
 static uint32_t take_permit(hz_sender *sender) {
-    _Atomic int64_t *permits = &sender->sleepers->permits;
-    int64_t out = atomic_load(permits);
+    int64_t out = atomic_load(&sender->sleepers->permits);
     while (out >= 0 && (uint64_t)out < sender->bound)
-        if (atomic_compare_exchange_weak(permits, &out, out + 1))
+        if (atomic_compare_exchange_weak(&sender->sleepers->permits, &out, out + 1))
             return HZ_DONE;
     return out < 0 ? HZ_CLOSED : HZ_FULL;
 }
 
-WEAK uint32_t hz_try_send(hz_sender *sender, uint64_t value) {
+/* One that waits keeps its permit while other ends are first: else one that is behind could lose it each time. */
+static inline uint32_t send_once(hz_sender *sender, uint64_t value, bool waits) {
     uint32_t code = sender->bound ? take_permit(sender) : HZ_DONE;
     if (code != HZ_DONE)
         return code;
     hz_wake told;
-    code = hz_channel_send(&sender->end, value, &told);
+    for (unsigned tries = 0; code = hz_channel_send(&sender->end, value, &told), waits && code == HZ_AGAIN; pause_after(tries++))
+        settle(&sender->end, sender->sleepers, &told);
     if (told.threads || told.owes)
         settle(&sender->end, sender->sleepers, &told);
     if (code != HZ_DONE && sender->bound)
@@ -180,10 +181,13 @@ WEAK uint32_t hz_try_send(hz_sender *sender, uint64_t value) {
     return code;
 }
 
+WEAK uint32_t hz_try_send(hz_sender *sender, uint64_t value) {
+    return send_once(sender, value, false);
+}
+
 WEAK uint32_t hz_send_by(hz_sender *sender, uint64_t value, const struct timespec *deadline) {
-    uint32_t code, tries = 0;
-    while ((code = hz_try_send(sender, value)) == HZ_AGAIN || (code == HZ_FULL && tries < LOOKS))
-        pause_after(tries++);
+    uint32_t code;
+    for (unsigned tries = 0; (code = send_once(sender, value, true)) == HZ_FULL && tries < LOOKS; pause_after(tries++)) {}
     if (code != HZ_FULL)
         return code;
     hz_sleepers *all = sender->sleepers;
@@ -192,9 +196,7 @@ WEAK uint32_t hz_send_by(hz_sender *sender, uint64_t value, const struct timespe
     atomic_fetch_add(&all->waiting, 1);
     do {
         enlist(all, &self, FOR_PERMITS);
-        while ((code = hz_try_send(sender, value)) == HZ_AGAIN)
-            pause_after(tries++);
-    } while (code == HZ_FULL && sleep_by(all, &self, deadline));
+    } while ((code = send_once(sender, value, true)) == HZ_FULL && sleep_by(all, &self, deadline));
     leave(all, &self, false);
     atomic_fetch_sub(&all->waiting, 1);
     pthread_cond_destroy(&self.woken);
@@ -241,8 +243,7 @@ WEAK uint32_t hz_receiver_clone(hz_receiver *receiver, hz_receiver *other) {
 
 static uint32_t count(hz_end *end, uint64_t *len) {
     uint32_t code;
-    for (unsigned tries = 0; (code = hz_channel_len(end, len)) == HZ_AGAIN; tries++)
-        pause_after(tries);
+    for (unsigned tries = 0; (code = hz_channel_len(end, len)) == HZ_AGAIN; pause_after(tries++)) {}
     return code;
 }
 
@@ -284,6 +285,5 @@ WEAK uint32_t hz_sender_free(hz_sender *sender) {
 }
 
 WEAK uint32_t hz_receiver_free(hz_receiver *receiver) {
-    receiver->bound = 0;
     return free_end(&receiver->end, receiver->sleepers, true);
 }

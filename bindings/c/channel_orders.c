@@ -1,5 +1,6 @@
 /* Tries orders of the steps of channel.c, which is a part of this file: does a receiver ever sleep beside a value? Does a sender
- * ever sleep beside a permit, or after the last receiver was freed? Do more values wait than the bound?
+ * ever sleep beside a permit, or after the last receiver was freed? Do more values wait than the bound? Does a sender that waits
+ * lose its permit because another one was first?
  *
  *     channel_orders [MANY]   so many orders, drawn at random from a fixed seed, for each of five cases
  *
@@ -51,11 +52,13 @@ enum status { READY, BLOCKED, DONE };
 enum owed { NOTHING, TOKEN, LEAVE, ASLEEP }; /* what an end owes, or that it sleeps */
 
 static struct {
-    uint64_t values, list; /* tokens in the low half, those that wait without one in the high half */
+    uint64_t values, sent; /* sent: how many sends were done */
+    uint64_t list;         /* tokens in the low half, those that wait without one in the high half */
     struct {
         enum status status;
         enum owed owed;
         bool times_out, late;
+        bool was_refused, was_second; /* a send found no memory, and another one was first */
         const void *cond;
     } ends[ENDS];
 } now;
@@ -79,6 +82,10 @@ static void go_on(void) {
 }
 
 static int sleep_on(const void *cond, const void *deadline) {
+    if (now.ends[self].was_second && with_deadline) {
+        puts("a sender lost its permit");
+        exit(1);
+    }
     now.ends[self].status = BLOCKED;
     now.ends[self].cond = cond;
     now.ends[self].times_out = deadline;
@@ -96,9 +103,9 @@ static void wake_up(const void *cond) {
 static const struct timespec deadline;
 
 static void send_one(hz_sender *sender) {
-    uint32_t code = with_deadline ? hz_send_by(sender, 7, &deadline) : hz_send(sender, 7);
-    if (with_deadline && code == HZ_FULL)
-        code = hz_send(sender, 7);
+    uint32_t code = HZ_NO_MEMORY;
+    while (code == HZ_NO_MEMORY || (with_deadline && code == HZ_FULL))
+        code = !with_deadline ? hz_send(sender, 7) : hz_send_by(sender, 7, code == HZ_FULL ? NULL : &deadline);
     if (code != HZ_DONE && !(leaves && code == HZ_CLOSED))
         abort();
 }
@@ -173,7 +180,17 @@ uint32_t hz_channel_pay(hz_end *end, hz_wake *wake) {
 
 uint32_t hz_channel_send(hz_end *end, uint64_t value, hz_wake *wake) {
     (void)value;
+    *wake = (hz_wake){0, 0, 0};
+    uint64_t seen = now.sent;
     step();
+    if (!now.ends[self].was_refused) {
+        now.ends[self].was_refused = true;
+        return HZ_NO_MEMORY;
+    }
+    now.ends[self].was_second = now.sent != seen;
+    if (now.ends[self].was_second)
+        return HZ_AGAIN;
+    now.sent++;
     if (now.values++ == bound && bound) {
         puts("more values wait than the bound");
         exit(1);
@@ -310,8 +327,9 @@ int main(int count, char **words) {
     try_orders(orders, "");
     with_deadline = true;
     try_orders(orders, ", with deadlines");
-    bound = 1;
+    bound = 2;
     try_orders(orders, ", with a bound and deadlines");
+    bound = 1;
     with_deadline = false;
     try_orders(orders, ", with a bound");
     leaves = true;
