@@ -19,7 +19,7 @@
  *     second. Different ends of one channel may be in calls at the same time: that is what a channel is for.
  *  4. malloc, realloc and free are of one allocator, and malloc and realloc align as the C standard says.
  *  5. No call is made from a signal handler, or from the forked child of a process with threads. A child that was forked while
- *     no call was running may use the channels that it makes itself.
+ *     no call was running may use the channels that it makes itself. No thread is cancelled (pthread_cancel) during a call.
  *
  * Each end that was made has to be freed, by hz_sender_free or hz_receiver_free. A channel is closed once its last sender is
  * freed, or by hz_close. If there is a bound, the last receiver closes it, too. Without a bound, senders do not learn that all
