@@ -176,6 +176,7 @@ module _ {T : Type 0} where
       let same_ = claim_same s k i v w at old now_ r idle b bs first refl in
       let lent_ = size_set s.homes (old % slots) none in
       let in_ = k.within in
+      -- (`omega` uses sd and sm below)
       let sm = k.small in
       let low_ = fit.sight.low in
       let may = may_take k.history slots k.states k.cut k.hub k.roll i v fit (omega arith) in

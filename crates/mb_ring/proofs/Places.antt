@@ -156,6 +156,7 @@ module _ {T : Type 0} where
   goes_on s k q few = dite (dec_le 9223372036854775808 (slice_index s.words 0))
       (λ cut. inl (
         (λ open_. open_ cut),
+        -- (`omega` uses e, m and shut_)
         let e = at0 s k in let m = k.small in
             let shut_ : free k.cut 1 ≡ 0 = free_shut k.cut 1 (omega arith) in
             ⊎_elim (λ x. absurd (omega arith)) (λ x. omega arith) (k.lists q).shut,

@@ -130,11 +130,11 @@ impl Plan {
             scripts: vec![Script::default(); 3 + dice.under(2)],
         };
         let (mut value, calls) = (0, 6 + dice.under(5));
-        let first = dice.under(plan.scripts.len());
+        let shift = dice.under(plan.scripts.len());
         for thread in 0..plan.scripts.len() {
             let share = (calls + thread) / plan.scripts.len();
             // (there is one thread at least that sends, and one that receives)
-            let side = match (thread + first) % plan.scripts.len() {
+            let side = match (thread + shift) % plan.scripts.len() {
                 0 => 0,
                 1 => 1,
                 _ => dice.under(3),

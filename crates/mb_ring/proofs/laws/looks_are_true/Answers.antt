@@ -24,6 +24,7 @@ returns-clause-last_empty g c s k n v at some_ = let l = (k.looks n v at.0 at.1)
 
 pub returns-clause-last_full : goal.returns-clause-last_full
 returns-clause-last_full g c s k n v at some_ = let l = (k.looks n v at.0 at.1).1.1 some_ in
+    -- (m: how many slots the ring has. d: how many more positions were drawn than claimed. `omega` uses both)
     let m = k.sized.1 in let d = l.2.2 in
     (l.0, l.1, (true_before k.size l.0 k.true_).0 ∙ sym m, (l.2.0, l.2.1, omega arith))
 
