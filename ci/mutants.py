@@ -8,7 +8,7 @@
 A mutant is a file NAME.edit of these lines: `refuses: CRATE::..::FUNCTION`, `file: src/FILE.rt`, and pairs of `old: TEXT` and
 `new: TEXT`. The old text stands once in that file, and in that function or in an import. With `alone: WHY` it may stand anywhere.
 Mutants of different functions of a crate share a check, and its checks run one after the other, each over what those before
-it proved. docs/CI.md says how they are judged. The last line is `N passed, N failed`, and the status is 0 if none failed.
+it proved. The other functions are not proved once more: their proofs are taken away. docs/CI.md says how they are judged. The last line is `N passed, N failed`, and the status is 0 if none failed.
 """
 import os
 import re
@@ -21,8 +21,10 @@ from concurrent.futures import ThreadPoolExecutor
 import kit as kits
 from kit import TOP
 
-MOST = 40  # mutants of one check
+MOST = 80  # mutants of one check
 MEMORY = 3_500_000_000  # bytes: the most that one process of a check has been seen to take, with some room
+PROOFS = {"Answers.antt", "Invariants.antt", "Proof.antt"}  # the files of a function's proof
+LEMMAS = re.compile(r"(?:\./)?proofs/(?!\S*\b(?:Answers|Invariants|Proof)\.antt:)")
 LINE = re.compile(r"(refuses|alone|file|old|new): ?(.*)")
 FUNCTION = re.compile(r'^ *(?:pub(?:\([\w ]+\))? )?(?:const |final |ghost |unsafe |extern "C" )*fn (\w+)', re.M)
 # What the prover says if a proof file names what the edit took away.
@@ -117,8 +119,20 @@ def groups(mutants):
     return found
 
 
-def check(kit, crate, group, kept):
-    """What a check of the functions of the group says, in a copy of the crate with its edits."""
+def take_proofs(room, group):
+    """Takes the proofs of the functions without a mutant away, in a copy of the crate."""
+    own = ["/".join(it.function.split("::")[1:]) for it in group]
+    for at, _, names in os.walk(f"{room}/proofs"):
+        # (a folder with a + is of functions that call one another)
+        if PROOFS & {*names} and "+" not in at and os.path.relpath(at, f"{room}/proofs") not in own:
+            for name in PROOFS & {*names}:
+                os.remove(f"{at}/{name}")
+            with open(f"{at}/Proof.antt", "w", encoding="utf-8") as file:
+                file.write("-- rt ci proves it\n")
+
+
+def check(kit, crate, group, kept, is_whole):
+    """What a check of the functions of the group says, in a copy of the crate with its edits, with all proofs or only theirs."""
     with tempfile.TemporaryDirectory(prefix="mutants-") as room:
         for part in kit.PARTS:
             if os.path.isdir(f"{crate.folder}/{part}"):
@@ -126,6 +140,8 @@ def check(kit, crate, group, kept):
         for path, text in changed(group).items():
             with open(f"{room}/{path}", "w", encoding="utf-8") as file:
                 file.write(text)
+        if not is_whole:
+            take_proofs(room, group)
         # (a static library is checked as a library: the proofs are the same, and no code of other crates is read)
         words = [it for it in crate.words(["--jobs", "1"], keeps=False) if it not in ("--crate-type", "staticlib")]
         words += [word for it in group for word in ("--only", it.function.partition("::")[2])]
@@ -175,6 +191,8 @@ def judged(group, said):
         return {}, f"the edited text cannot be read: {unread(group, said)}"
     if not group[0].alone and own:
         return {}, f"{own[0]} fails too, and no mutant is in it"
+    if not group[0].alone and (lost := [it for it in errors_in("proofs/", said) if LEMMAS.match(it)]):
+        return {}, f"a lemma fails: {lost[0]}"
     if not group[0].alone and "proved" not in others.values():
         return {}, "no function beside the mutants is proved in the check"
     return {it.label: fails(it.function, verdicts.get(it.function, ""), said) for it in group}, ""
@@ -187,7 +205,12 @@ def try_crate(kit, crate, mutants):
         if os.path.isdir(f"{crate.folder}/out/incremental"):
             shutil.copytree(f"{crate.folder}/out/incremental", room, dirs_exist_ok=True)
         for group in groups(mutants):
-            refused, why = judged(group, check(kit, crate, group, room))
+            refused, why = {}, ""
+            # What is not refused, or not judged, is tried once more with all proofs there.
+            for is_whole in (True,) if group[0].alone else (False, True):
+                if rest := [it for it in group if not refused.get(it.label)]:
+                    found, why = judged(rest, check(kit, crate, rest, room, is_whole))
+                    refused.update(found)
             passed += sum(refused.values())
             for it in group:
                 word = "refused" if refused.get(it.label) else f"NOT TRIED: {why[:300]}" if why else "NOT REFUSED"

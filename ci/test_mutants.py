@@ -1,6 +1,8 @@
 """Tests of ci/mutants.py, over lines that the prover once printed. They run no prover."""
 import contextlib
 import io
+import os
+import re
 from types import SimpleNamespace
 
 import mutants
@@ -69,9 +71,28 @@ class Mutants(Room):
         for status, last in (0, "}\n"), (1, "}\n"), (3, "\nits status is 3"):
             crate = SimpleNamespace(name="q", folder=group[0].folder, words=lambda flags, keeps: ["a", str(status)])
             with contextlib.redirect_stdout(io.StringIO()) as told:
-                said = mutants.check(kit, crate, group, "kept")
+                said = mutants.check(kit, crate, group, "kept", True)
             self.assertTrue(said.startswith("check --only") and "1 + 2" in said and said.endswith(last), said)
             self.assertRegex(told.getvalue(), r"^q: a check of 1 in \d+ processor seconds\n$")
+
+    def test_a_function_without_a_mutant_loses_its_proof(self):
+        for file in ("a/one/Answers", "a/two/Answers", "a/two/Invariants", "a/+three/Proof", "Lemmas"):
+            self.write(f"room/proofs/{file}.antt", "lemma")
+        mutants.take_proofs(f"{self.top}/room", self.edit("well")[0])
+        for folder, left in ("one", ["Answers.antt"]), ("two", ["Proof.antt"]), ("+three", ["Proof.antt"]):
+            self.assertEqual(os.listdir(f"{self.top}/room/proofs/a/{folder}"), left)
+
+    def test_what_is_not_refused_is_tried_with_all_proofs(self):
+        for function in "one", "two":
+            self.write(f"crates/q/proofs/a/{function}/Answers.antt", "answer")
+        lines = "./proofs/a/one/Answers.antt:1:1: error: `x`: no", "fn q::a::one: not proved", "fn q::a::low: proved", "only=1 proved=0"
+        said = "\n".join(lines)
+        prover = self.write("prover", f"#!/bin/sh\n[ -f proofs/a/two/Answers.antt ] && echo '{said}' || echo '{said[said.index('fn'):]}'\n")
+        kit = SimpleNamespace(PARTS=["src", "proofs"], RATTLE=prover, guarded=lambda: [])
+        crate = SimpleNamespace(name="q", folder=f"{self.top}/crates/q", words=lambda flags, keeps: [])
+        with contextlib.redirect_stdout(io.StringIO()) as told:
+            self.assertEqual(mutants.try_crate(kit, crate, self.edit("well")[0]), (1, 0))
+        self.assertEqual(told.getvalue().count("a check of 1"), 2)
 
     def judged(self, said, functions=FUNCTIONS, more=""):
         group = []
@@ -93,3 +114,8 @@ class Mutants(Room):
             self.assertEqual(self.judged(said)[0], {}, said[:60])
         self.assertIn("checked_values fails too", self.judged(SAID, FUNCTIONS[1:])[1])
         self.assertEqual(self.judged(SAID, FUNCTIONS[1:2], "alone: it reaches others\n")[0], {0: True})
+        lemma = "./proofs/Width.antt:3:1: error: `least`: `omega`: the goal does not follow\n"
+        self.assertIn("a lemma fails", self.judged(lemma + SAID)[1])
+        lacking = "./proofs/values/checked_values/Proof.antt: error: this file exports no `checked_values_spec`\n"
+        said = re.sub("values: no proof.*", "values: not proved", lacking + SAID)
+        self.assertEqual([*self.judged(said, FUNCTIONS[1:])[0].values()], [True, False, False])

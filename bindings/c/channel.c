@@ -13,7 +13,7 @@
 #include <stdlib.h>
 
 #define WEAK __attribute__((weak))
-enum { LOOKS = 7, SPINS = 3 }; /* looks before a sleep, and how many of the pauses between them spin */
+enum { LOOKS = 9, SPINS = 5 }; /* looks before a sleep, and how many of the pauses between them spin */
 #define FOR_PERMITS UINT64_MAX /* the place of senders that sleep */
 
 struct sleeper {
@@ -30,11 +30,15 @@ struct hz_sleepers {
     struct sleeper *first;
 };
 
-/* Some microseconds, or a yield. With less, threads that wait take the lines of memory from those that work. */
-__attribute__((noinline)) static void pause_after(unsigned tries) {
-    for (volatile unsigned i = 0; tries < SPINS && i < 1024u << tries; i++) {}
-    if (tries >= SPINS)
+/* A spin that grows, or a yield. After another end was first it spins for some microseconds at once. That end then works alone,
+ * which is worth more than the time: two that try all the time take the lines of memory from each other. */
+__attribute__((noinline)) static void pause_after(unsigned tries, uint32_t code) {
+    if (tries >= SPINS) {
         sched_yield();
+        return;
+    }
+    unsigned spins = code == HZ_AGAIN ? 4096u << (tries < 2 ? tries : 2) : 256u << tries;
+    for (volatile unsigned i = 0; i < spins; i++) {}
 }
 
 /* Takes this sleeper out of the list, or else the first at this place, and wakes it. False if there was none. */
@@ -102,7 +106,7 @@ __attribute__((cold, noinline)) static void settle(hz_end *end, hz_sleepers *all
 
 /* Makes a call until it is done. */
 static uint32_t finish(uint32_t (*call)(hz_end *, hz_wake *), hz_end *end, hz_sleepers *all) {
-    for (unsigned tries = 0;; pause_after(tries++)) {
+    for (unsigned tries = 0;; pause_after(tries++, HZ_AGAIN)) {
         hz_wake told;
         uint32_t code = call(end, &told);
         settle(end, all, &told);
@@ -129,7 +133,7 @@ static uint32_t receive(hz_receiver *from, struct sleeper *self, uint64_t *value
         is_new = was_listed && !is_new;
         settle(&from->end, from->sleepers, &told);
         if (code == HZ_AGAIN)
-            pause_after(tries++);
+            pause_after(tries++, code);
         else if (code != HZ_SLEEPS)
             return code;
     }
@@ -145,7 +149,7 @@ static void init(struct sleeper *self) {
 
 WEAK uint32_t hz_recv_by(hz_receiver *from, uint64_t *value, const struct timespec *deadline) {
     uint32_t code;
-    for (unsigned tries = 0; tries < LOOKS; pause_after(tries++))
+    for (unsigned tries = 0; tries < LOOKS; pause_after(tries++, code))
         if ((code = hz_try_recv(from, value)) != HZ_NOTHING && code != HZ_AGAIN)
             return code;
     struct sleeper self;
@@ -172,7 +176,7 @@ static inline uint32_t send_once(hz_sender *sender, uint64_t value, bool waits) 
     if (code != HZ_DONE)
         return code;
     hz_wake told;
-    for (unsigned tries = 0; code = hz_channel_send(&sender->end, value, &told), waits && code == HZ_AGAIN; pause_after(tries++))
+    for (unsigned tries = 0; (code = hz_channel_send(&sender->end, value, &told)) == HZ_AGAIN && waits; pause_after(tries++, code))
         settle(&sender->end, sender->sleepers, &told);
     if (told.threads || told.owes)
         settle(&sender->end, sender->sleepers, &told);
@@ -187,7 +191,7 @@ WEAK uint32_t hz_try_send(hz_sender *sender, uint64_t value) {
 
 WEAK uint32_t hz_send_by(hz_sender *sender, uint64_t value, const struct timespec *deadline) {
     uint32_t code;
-    for (unsigned tries = 0; (code = send_once(sender, value, true)) == HZ_FULL && tries < LOOKS; pause_after(tries++)) {}
+    for (unsigned tries = 0; (code = send_once(sender, value, true)) == HZ_FULL && tries < LOOKS; pause_after(tries++, code)) {}
     if (code != HZ_FULL)
         return code;
     hz_sleepers *all = sender->sleepers;
@@ -243,7 +247,7 @@ WEAK uint32_t hz_receiver_clone(hz_receiver *receiver, hz_receiver *other) {
 
 static uint32_t count(hz_end *end, uint64_t *len) {
     uint32_t code;
-    for (unsigned tries = 0; (code = hz_channel_len(end, len)) == HZ_AGAIN; pause_after(tries++)) {}
+    for (unsigned tries = 0; (code = hz_channel_len(end, len)) == HZ_AGAIN; pause_after(tries++, code)) {}
     return code;
 }
 

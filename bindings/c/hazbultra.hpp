@@ -66,6 +66,11 @@ class channel_end {
         auto since = std::chrono::nanoseconds(deadline.time_since_epoch()).count();
         return {time_t(since / 1000000000), long(since % 1000000000)};
     }
+    /* So long after now, or the last time there is. */
+    static std::chrono::steady_clock::time_point in(std::chrono::nanoseconds time) noexcept {
+        auto now = std::chrono::steady_clock::now(), last = std::chrono::steady_clock::time_point::max();
+        return time < last - now ? now + time : last;
+    }
     End end = {};
 };
 
@@ -86,7 +91,7 @@ class sender : public channel_end<hz_sender, hz_sender_clone, hz_sender_len, hz_
         return hz_code(hz_send_by(&end, value, &at));
     }
     [[nodiscard]] hz_code send_for(uint64_t value, std::chrono::nanoseconds time) noexcept {
-        return send_until(value, std::chrono::steady_clock::now() + time);
+        return send_until(value, in(time));
     }
     /* It does not sleep. HZ_FULL: there is no room. HZ_AGAIN: other ends were first. */
     [[nodiscard]] hz_code try_send(uint64_t value) noexcept { return hz_code(hz_try_send(&end, value)); }
@@ -115,7 +120,7 @@ class receiver : public channel_end<hz_receiver, hz_receiver_clone, hz_receiver_
         return recv_by(&at);
     }
     [[nodiscard]] answer recv_for(std::chrono::nanoseconds time) noexcept {
-        return recv_until(std::chrono::steady_clock::now() + time);
+        return recv_until(in(time));
     }
     /* It does not sleep. HZ_NOTHING: at a moment of the call nothing waited. HZ_AGAIN: that is not known. */
     [[nodiscard]] answer try_recv() noexcept {

@@ -31,10 +31,10 @@ template <class Call> static refusal refused(Call call) {
 
 constexpr uint64_t ITEMS = 1000;
 
-// Receives until the channel is closed, and returns the sum. It sleeps meanwhile.
+// Receives until the channel is closed, and returns the sum. It sleeps meanwhile, for the longest time there is.
 static uint64_t received_by(receiver jobs) {
     for (uint64_t sum = 0;;) {
-        answer found = jobs.recv();
+        answer found = jobs.recv_for(std::chrono::nanoseconds::max());
         if (found.code == HZ_CLOSED)
             return sum;
         EXPECT(found.code == HZ_TOOK);
@@ -51,6 +51,7 @@ static void channels() {
     EXPECT(!worker && worker.recv().code == HZ_BAD_HANDLE && refused([&] { worker.clone(); }).code == HZ_BAD_HANDLE);
     EXPECT(jobs.len() == 0 && refused([&] { worker.len(); }).code == HZ_BAD_HANDLE);
     sender other = jobs.clone();
+    std::this_thread::sleep_for(std::chrono::milliseconds(20)); // (the workers sleep by now)
     for (uint64_t job = 1; job <= ITEMS; job++)
         EXPECT((job % 2 ? jobs : other).send(job) == HZ_DONE);
     jobs = std::move(other); // the first sender is freed

@@ -74,12 +74,12 @@ fn what_gone_ends_did_is_counted_and_nothing_else() {
         (0..SOME).for_each(|it| sender.send(it).unwrap());
     }
     assert_eq!(receiver.len() as u64, 2 * SOME);
-    assert_eq!(receiver.clone().recv(), Ok(0));
+    assert!(receiver.clone().try_iter().take(2).eq(0..2)); // (the first take makes the seat)
     (1..SOME).for_each(|it| sender.send(it).unwrap());
-    assert_eq!(sender.len() as u64, 3 * SOME - 2);
+    assert_eq!(sender.len() as u64, 3 * SOME - 3);
     sender.close();
     assert!(sender.send(5).is_err());
-    assert_eq!(sender.len() as u64, 3 * SOME - 2);
+    assert_eq!(sender.len() as u64, 3 * SOME - 3);
 }
 
 /// The one sender of a channel has room once a receiver has found nothing, also while another one has taken a value and
@@ -125,7 +125,8 @@ fn what_a_job_gives_back_after_a_close_is_the_last() {
         sender.close();
         drop(job);
         assert_eq!(receiver.len(), 4);
-        assert!(receiver.try_iter().eq([2, 3, 4, 1]));
+        assert_eq!(receiver.clone().try_recv(), Ok(2)); // (a first take)
+        assert!(receiver.try_iter().eq([3, 4, 1]));
         assert_eq!(receiver.try_recv(), Err(TryRecvError::Disconnected));
     }
 }

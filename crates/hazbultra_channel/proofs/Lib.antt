@@ -1,3 +1,4 @@
 mod AsBox
 mod Steps
 mod Sent
+mod Told

@@ -3,8 +3,8 @@ use Rattle.std.specs.Prelude.{◌≡◌, ◌⊎◌, ◌≤◌, ℕ, Option, Some
 use Rattle.mb_channel.specs.declared.held.Held.{Held}
 use Rattle.mb_channel.specs.declared.held.Held.TheVariants as held
 use Rattle.mb_channel.specs.declared.try_sends.Owing.{Owing}
-use Rattle.mb_channel.specs.Ends.{AreOfOneChannel, IsBehind, IsFresh, IsSame, Standing, got_by, log_of, stand_of, view_of}
-use Rattle.mb_channel.specs.Kept.{IsKeptBehind, IsKeptFresh, IsSettled, log_kept, stand_kept, wakes_kept}
+use Rattle.mb_channel.specs.Ends.{AreOfOneChannel, IsBehind, IsFresh, IsSame, Standing, end_told, got_by, log_of, stand_of, view_of}
+use Rattle.mb_channel.specs.Kept.{IsKeptBehind, IsKeptFresh, IsSettled, kept_told, log_kept, stand_kept, wakes_kept}
 use Rattle.mb_channel.specs.Receives.{FoundNone, SawEmpty}
 use Rattle.mb_channel.specs.Standing.{HasCut, NoMore, OneGot, got_in, sent_in, stand_with}
 use Rattle.mb_channel.specs.Wakes.{Tells, Wakes, wakes_of, wakes_with}
@@ -164,6 +164,13 @@ abbrev pub FoundNothing : {T : Type 0} → Held T → Held T → Type 0
 FoundNothing (held.OfReceiver r) (held.OfReceiver q) = SawEmpty (stand_of r.end) (stand_of q.end)
     ⊎ FoundNone (stand_of r.end) (stand_of q.end)
 FoundNothing h k = ⊥
+
+-- ---- a call that counts
+-- a sender or a receiver was told that n values wait. Nothing else of it is new
+abbrev pub ToldLength : {T : Type 0} → ℕ → Held T → Held T → Type 0
+ToldLength n (held.OfSender k) (held.OfSender l) = l ≡ kept_told (Some n) k
+ToldLength n (held.OfReceiver r) (held.OfReceiver q) = q.end ≡ end_told (Some n) r.end
+ToldLength n h k = ⊥
 
 -- ---- an end that goes
 -- it sent and received nothing, and its caller was told to wake n threads. It does not sleep

@@ -59,6 +59,7 @@ pub extern "C" fn hz_channel_send(sender: &mut End, value: u64, wake: &mut WakeO
             pay_there(opened, wake);
             DONE
         }
+        Posted::Again(_) => AGAIN,
         Posted::Back(_) => send_further(opened, value, wake),
     }
 }

@@ -1,7 +1,6 @@
 //! The call that tells how many values wait.
-ghost use Rattle.std.specs.Prelude.{◌≡◌, ◌≢◌, ◌↔◌, ◌⊎◌, IfSome};
-ghost use Rattle.mb_channel.specs.Lengths.{HasCounted};
-ghost use Rattle.hazbultra_channel.specs.Ends.{EndMade, IsEnd, stand_held};
+ghost use Rattle.std.specs.Prelude.{◌≡◌, ◌≢◌, ◌↔◌, ◌⊎◌, IfNone, IfSome};
+ghost use Rattle.hazbultra_channel.specs.Ends.{EndMade, EndWent, IsEnd, ToldLength};
 ghost use Rattle.hazbultra_channel.specs.declared.codes.TheConstants.{AGAIN, BAD_HANDLE, DONE};
 
 use crate::codes::{AGAIN, BAD_HANDLE, DONE};
@@ -14,9 +13,9 @@ use mb_channel::Held;
 /// or owes something. It returns `BAD_HANDLE` if the handle leads to no end.
 #[unsafe(no_mangle)]
 pub extern "C" fn hz_channel_len(end: &mut End, len: &mut u64) -> u32
-    ensures counted { result ≡ DONE
-        → EndMade (λ h. HasCounted (stand_held h).chair.me.0 len.new) end.old.block.thing }
-    ensures same { end.new.block.thing ≡ end.old.block.thing }
+    ensures told { result ≡ DONE
+        → EndWent (ToldLength len.new) end.old.block.thing end.new.block.thing }
+    ensures same { result ≢ DONE → end.new.block.thing ≡ end.old.block.thing }
     ensures bad { (result ≡ BAD_HANDLE) ↔ (EndMade IsEnd end.old.block.thing → ⊥) }
     ensures kept { result ≢ DONE → len.new ≡ len.old }
     ensures codes { (result ≡ DONE) ⊎ (result ≡ AGAIN) ⊎ (result ≡ BAD_HANDLE) }
@@ -36,9 +35,10 @@ pub extern "C" fn hz_channel_len(end: &mut End, len: &mut u64) -> u32
     }
 }
 
+#[tactic(auto, using(crate::proofs::Told::sender_told, crate::proofs::Told::sender_same, crate::proofs::Told::receiver_told, crate::proofs::Told::receiver_same))]
 fn count(held: &mut Held<u64>) -> Option<u64>
-    ensures same { held.new ≡ held.old }
-    ensures counted { IfSome result (HasCounted (stand_held held.old).chair.me.0) }
+    ensures told { IfSome result (λ n. ToldLength n held.old held.new) }
+    ensures same { IfNone result (held.new ≡ held.old) }
 {
     match held {
         Held::OfSender(kept) => kept.try_len(),

@@ -9,23 +9,15 @@ use Rattle.mb_segment.specs.History as seg
 use Rattle.mb_segment.specs.Passes.{Distinct, In, Match}
 use Rattle.mb_segment.specs.Whole.{IsWhole as IsToldWhole}
 use Rattle.mb_channel.specs.Types.{Account, Position}
-use Rattle.mb_channel.specs.ChannelTheorem.{Claim, Entry, History, Spot, entries, spots_by, spots_to}
+use Rattle.mb_channel.specs.ChannelTheorem.{Spot, entries, spots_by, spots_to}
 use Rattle.mb_channel.specs.Homes.{Falls, Made, made_by, made_in}
+pub use Rattle.mb_channel.specs.States.{claim_of as claim, entry_of as entry, history_of}
 use Rattle.mb_channel.specs.Stays.{AllBy, AllTo, AreApart, DidSo, IsEnd, IsPass, Stay, Told}
 
 module _ {T : Type 0} where
   -- a segment's history in the channel's words
   abbrev pub pos : Position T → Spot T
   pos s = record { at = s.at; value = s.value }
-
-  abbrev pub entry : seg.Entry T → Entry T
-  entry e = record { by = e.by; value = e.value }
-
-  abbrev pub claim : seg.Claim T → Claim T
-  claim c = record { entry = entry c.entry; to = c.to }
-
-  abbrev pub history_of : seg.History T → History T
-  history_of h = record { claims = map claim h.claims; rest = map entry h.rest }
 
   pub by_same : (n p : ℕ) (es : List (seg.Entry T)) → map pos (seg.spots_by n p es) ≡ spots_by n p (map entry es)
   by_same n p [] = refl

@@ -10,8 +10,10 @@ use Rattle.mb_channel.specs.Types.{Home, Knows, Past}
 use Rattle.mb_channel.specs.Homes.{AllPast, Fits, IsSpent, Keeps, Made, NobodyTold, PastFits, FitsEnd}
 use Rattle.mb_channel.specs.Homes.{both, count, how_many, is_in, made_by, newborn_view, past_of}
 use Rattle.mb_channel.specs.Homes.{receives, rights, sends, spent_view, splits_off, tallies, told_or, total}
+use Rattle.std.proofs.lemmas.Bool.{or_left, or_right}
 use Rattle.mb_channel.proofs.Members.{lock_views}
 use Rattle.mb_channel.proofs.Moves.{ended_stay, grows_same, has_part, nobody_else, nobody_set, not_back, not_spent, told_same}
+use Rattle.mb_channel.proofs.Remembers.{some_joined, some_longer, still_remembers}
 use Rattle.mb_channel.proofs.Views.{all_zero, how_many_append, in_none, once_more, past_append, past_count_append, past_map, size_set, size_snoc, snoc_cases, there, total_set, total_snoc}
 
 one_is : (a b : Bool) → a || b ≡ true → (a ≡ true) ⊎ (b ≡ true)
@@ -141,6 +143,11 @@ module _ {T : Type 0} where
               last = x.last;
             }))
             (snoc_cases one new u j e);
+        known = (let r = still_remembers k.mark k.mark (total sends s.views) (total sends (one ++ new ∷ [])) s.views id
+            v w at (λ q. q) (λ q. q) (λ z. z) (λ z. sends' ∙ z) k.known in record {
+              closer = λ z. some_longer (λ u. u.shut ≡ true) one new (r.closer z);
+              loner = λ z. some_longer (λ u. u.alone ≡ true) one new (r.loner z);
+            });
         balance = λ g. (let a = total_set (count g) s.views id v w at in let b = total_snoc (count g) one new in
             let r = k.balance g in omega arith);
         once = λ n. (let a = total_set (λ u. how_many n u.ended) s.views id v w at in
@@ -253,6 +260,12 @@ module _ {T : Type 0} where
             (λ (q : (j ≢ id) × (get_elem? s.views j ≡ some u)). tells u (k.told j u q.1))
             (at_set s.views id j (both v w) u t.1))
             (at_set one other j spent_view u e);
+        known = record {
+          closer = λ z. some_joined (λ u. u.shut ≡ true) s.views id other v w (both v w) spent_view at was apart
+              (or_left v.shut w.shut) (or_right v.shut w.shut) (k.known.closer z);
+          loner = λ z. some_joined (λ u. u.alone ≡ true) s.views id other v w (both v w) spent_view at was apart
+              (or_left v.alone w.alone) (or_right v.alone w.alone) (k.known.loner (sends' ∙ z));
+        };
         balance = λ m. (
             let a = total_set (count m) s.views id v (both v w) at in let b = total_set
             (count m) one other w spent_view at2 in

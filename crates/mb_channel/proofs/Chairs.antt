@@ -13,6 +13,7 @@ use Rattle.mb_channel.specs.Homes.{Agrees, AreLed, AreOver, At, Changes, Grows, 
 use Rattle.mb_channel.specs.Homes.{IsPassOf, Keeps, Longer, Made, MayGive, MayLeave, Sat, Stands, came_back, came_to, is_in, left_segment, out_of, sends, total, unlocked}
 use Rattle.mb_channel.proofs.Moves.{AllFitEnd, busy_same, ended_stay, grows_same, in_grows, near_grows, next_grows, nobody_set, over_grows, still_told, unlocks}
 use Rattle.mb_channel.proofs.Stays.{unlocks_came, unlocks_left}
+use Rattle.mb_channel.proofs.Remembers.{still_remembers}
 use Rattle.mb_channel.proofs.Views.{all_zero, in_else, in_none, made_map, size_snoc, snoc_cases, there, total_set}
 
 some_is : {A : Type 0} (a b : A) → Some a ≡ Some b → a ≡ b
@@ -126,6 +127,8 @@ module _ {T : Type 0} where
           over = λ q. over_grows k.homes hs grows v.at (t.over q);
           last = λ n q. absurd (true≢false (ap is_some (sym q ∙ nobody id v at)));
         }),
+        still_remembers k.mark k.mark (total sends s.views) (total sends (slice_set s.views id (unlocked v))) s.views
+            id v (unlocked v) at (λ q. q) (λ q. q) (λ z. z) (λ z. sym e ∙ z) k.known,
       ))
       may
 
@@ -133,7 +136,7 @@ module _ {T : Type 0} where
   pub unlocks_same : (slots id : ℕ) (me : Sat T) (y : Homes T) (hs : List (Home T)) → Stands hs y → me.1 ≡ (0, y) ∷ []
       → me.0.live ≡ true → me.0.holds ≡ true → MayLeave me.0 hs → MayGive (λ v. v) slots id me
   unlocks_same slots id me y hs stands carried live holds may = unlocks
-      (λ v. v) slots id me y hs stands carried live holds refl refl refl refl refl refl
+      (λ v. v) slots id me y hs stands carried live holds refl refl refl refl refl refl refl
       (λ s k at part before.
       let f = k.fits id me.0 at in
       let l : IsKept me.0.at k.homes hs = subst (λ x. IsKept me.0.at x hs) before

@@ -12,6 +12,7 @@ use Rattle.mb_channel.specs.Homes.{is_in, sends, tallies, total, unlocked}
 use Rattle.mb_channel.specs.Tallies.{IsLast, closing, saw_closed, saw_none, saw_open, saw_sender, sees_mark, sees_senders, told_last}
 use Rattle.mb_channel.proofs.Members.{lock_view, senders_word, mark_word, set_same, tallies_stay}
 use Rattle.mb_channel.proofs.Moves.{AllFitEnd, busy_same, ended_stay, grows_same, has_part, moved, nobody_set, over_grows, tallies_set, told_same, unlocks}
+use Rattle.mb_channel.proofs.Remembers.{some_here, some_set, still_remembers}
 use Rattle.mb_channel.proofs.Views.{below_total, there, total_set}
 
 some_number : (n : ℕ) → n ≢ 0 → 0 < n
@@ -60,9 +61,9 @@ module _ {T : Type 0} where
   -- it sees the mark or looks, and does not see that no sender is left
   sees_it : (s : State (Homes T) (Knows T)) (k : Keeps s) (id : ℕ) (v : Knows T) (o a c : Bool) (d : ℕ)
       → get_elem? s.views id ≡ some v → (o ≡ true → (v.holds ≡ true) × (0 < k.mark))
-      → (a ≡ true → (o ≡ true) × NobodyTold s.views) → (c ≡ true → k.mark ≡ 0)
+      → (a ≡ true → (o ≡ true) × NobodyTold s.views) → (c ≡ true → k.mark ≡ 0) → (v.shut ≡ true → c ≡ true)
       → AllFitEnd s k id (noticed o a v.alone c d v) k.homes k.mark
-  sees_it s k id v o a c d at is_open may_add shut =
+  sees_it s k id v o a c d at is_open may_add shut more =
       let t = k.told id v at in
       let w = noticed o a v.alone c d v in
       let b = total_set sends s.views id v w at in
@@ -80,6 +81,8 @@ module _ {T : Type 0} where
           over = x.over;
           last = x.last;
         },
+        still_remembers k.mark k.mark (total sends s.views) (total sends (slice_set s.views id w)) s.views id v w at
+            more (λ q. q) (λ z. z) (λ z. sym same ∙ z) k.known,
       )
 
   -- where the list is not closed, and a sender is left
@@ -90,6 +93,39 @@ module _ {T : Type 0} where
       go None e = e
       go (Some n) e = ⊎_elim (λ z. absurd (omega arith)) (λ z. absurd (left z)) ((k.told j u at).last n e).1
 
+  -- no sender is left, and the end saw that
+  pub sees_none : (s : State (Homes T) (Knows T)) (k : Keeps s) (id : ℕ) (v : Knows T) → get_elem? s.views id ≡ some v
+      → v.live ≡ true → slice_index s.words 2 ≡ 0 → Keeps record {
+        words = slice_set s.words 2 (slice_index s.words 2);
+        homes = s.homes;
+        views = slice_set s.views id (saw_none v);
+      } × (v.sends ≡ 0)
+  sees_none s k id v at live e =
+      let t = k.told id v at in
+      let w = saw_none v in
+      let gone : total sends s.views ≡ 0 = sym (senders_word s k) ∙ e in
+      let b = total_set sends s.views id v w at in
+      let now : total sends (slice_set s.views id w) ≡ 0 = omega arith in
+      let nobody = nobody_set s.views id v w at refl in
+      let mine = below_total sends s.views id v at in (
+        notices s k id v v.is_open v.may_add true v.shut v.found (slice_set s.words 2 (slice_index s.words 2))
+            k.mark at live (loaded s k id 2 v w at refl refl refl) (
+              (λ j u ne at'. told_same k.homes k.homes k.mark s.views (slice_set s.views id w) u
+                  (grows_same k.homes) refl (λ _. now) (λ _. nobody) (k.told j u at')),
+              record {
+                is_open = t.is_open;
+                may_add = λ q. let x = t.may_add q in (x.0, nobody x.1);
+                alone = λ _. now;
+                shut = t.shut;
+                over = t.over;
+                last = λ n q. let x = t.last n q in (x.0, inr now, x.2);
+              },
+              still_remembers k.mark k.mark (total sends s.views) (total sends (slice_set s.views id w)) s.views
+                  id v w at (λ q. q) (λ _. refl) (λ z. z) (λ _. gone) k.known,
+            ),
+        omega arith,
+      )
+
   pub sees_whether : (slots id : ℕ) (me : Sat T) → me.0.live ≡ true → IsLast me.0
       → Allows Keeps slots id me 2 (λ n. n) (sees_senders (step slots 2 0 0 none) me)
   sees_whether slots id me live last s k len at small = go (ℕ_discrete (slice_index s.words 2) 0)
@@ -97,30 +133,8 @@ module _ {T : Type 0} where
       go : Dec (slice_index s.words 2 ≡ 0) → (w : Knows T) × (a : Act (Homes T)) × Valid s.homes me.1 a
           × Keeps (stepped s 2 (slice_index s.words 2) id me.1 w a)
           × sees_senders (step slots 2 0 0 none) me (slice_index s.words 2) (w, carried_after me.1 a)
-      go (yes e) = let v = me.0 in let t = k.told id v at in let w = saw_none v in
-          let gone : total sends s.views ≡ 0 = sym (senders_word s k) ∙ e in
-          let b = total_set sends s.views id v w at in
-          let now : total sends (slice_set s.views id w) ≡ 0 = omega arith in
-          let nobody = nobody_set s.views id v w at refl in
-          let mine = below_total sends s.views id v at in (
-            w,
-            keeps,
-            tt,
-            notices s k id v v.is_open v.may_add true v.shut v.found (slice_set s.words 2 (slice_index s.words 2))
-                k.mark at live (loaded s k id 2 v w at refl refl refl) (
-                  (λ j u ne at'. told_same k.homes k.homes k.mark s.views (slice_set s.views id w) u
-                      (grows_same k.homes) refl (λ _. now) (λ _. nobody) (k.told j u at')),
-                  record {
-                    is_open = t.is_open;
-                    may_add = λ q. let x = t.may_add q in (x.0, nobody x.1);
-                    alone = λ _. now;
-                    shut = t.shut;
-                    over = t.over;
-                    last = λ n q. let x = t.last n q in (x.0, inr now, x.2);
-                  },
-                ),
-            (refl, last, (λ _. (refl, omega arith)), λ ne. absurd (ne e)),
-          )
+      go (yes e) = let x = sees_none s k id me.0 at live e in
+          (saw_none me.0, keeps, tt, x.0, (refl, last, (λ _. (refl, x.1)), λ ne. absurd (ne e)))
       go (no ne) = let v = me.0 in let t = k.told id v at in let w = saw_sender v in (
         w,
         keeps,
@@ -128,7 +142,7 @@ module _ {T : Type 0} where
         notices s k id v v.is_open v.is_open v.alone v.shut w.found (slice_set s.words 2 (slice_index s.words 2))
             k.mark at live (loaded s k id 2 v w at refl refl refl)
             (sees_it s k id v v.is_open v.is_open v.shut w.found at t.is_open
-            (λ q. (q, nobody_is s k (t.is_open q).1 (λ z. ne (senders_word s k ∙ z)))) t.shut),
+            (λ q. (q, nobody_is s k (t.is_open q).1 (λ z. ne (senders_word s k ∙ z)))) t.shut (λ q. q)),
         (refl, last, (λ e. absurd (ne e)), λ _. refl),
       )
 
@@ -146,7 +160,7 @@ module _ {T : Type 0} where
         notices s k id v v.is_open v.may_add v.alone true v.found (slice_set s.words 4 (slice_index s.words 4)) k.mark
             at live (loaded s k id 4 v (saw_closed v) at refl refl refl)
             (sees_it s k id v v.is_open v.may_add true v.found at (k.told id v at).is_open (k.told id v at).may_add
-            (λ _. sym (mark_word s k) ∙ e)),
+            (λ _. sym (mark_word s k) ∙ e) (λ _. refl)),
         (refl, (λ _. refl), λ ne. absurd (ne e)),
       )
       go (no ne) = let v = me.0 in let t = k.told id v at in let w = saw_open v in (
@@ -157,7 +171,7 @@ module _ {T : Type 0} where
             at live (loaded s k id 4 v w at refl refl refl)
             (sees_it s k id v v.holds v.may_add v.shut v.found at
             (λ q. (q, some_number k.mark (λ z. ne (mark_word s k ∙ z))))
-            (λ q. let x = t.may_add q in ((t.is_open x.0).0, x.1)) t.shut),
+            (λ q. let x = t.may_add q in ((t.is_open x.0).0, x.1)) t.shut (λ q. q)),
         (refl, (λ e. absurd (ne e)), λ _. refl),
       )
 
@@ -199,6 +213,11 @@ module _ {T : Type 0} where
                 over = t.over;
                 last = λ n q. let y = t.last n q in (y.0, inl refl, y.2);
               },
+              record {
+                closer = λ _. some_here (λ u. u.shut ≡ true) s.views id v w at refl;
+                loner = λ z. some_set (λ u. u.alone ≡ true) s.views id v w at (λ q. q)
+                    (k.known.loner (sym same ∙ z));
+              },
             ),
         (refl, refl),
       )
@@ -209,7 +228,7 @@ module _ {T : Type 0} where
       → (me.0.shut ≡ true) ⊎ (me.0.alone ≡ true) → (me.0.at ≡ n) × (me.0.orderly ≡ true)
       → MayGive (told_last n) slots id me
   unlocks_told n slots id me y hs stands carried live holds is size seen here = unlocks
-      (told_last n) slots id me y hs stands carried live holds refl refl refl refl refl refl
+      (told_last n) slots id me y hs stands carried live holds refl refl refl refl refl refl refl
       (λ s k at part before.
       let v = me.0 in
       let f = k.fits id v at in
@@ -254,6 +273,8 @@ module _ {T : Type 0} where
               subst (λ i. AreOver hs i) (here.0 ∙ some_is n m q) (over_grows k.homes hs grows v.at (t.over here.1)),
             );
           },
+          still_remembers k.mark k.mark (total sends s.views) (total sends (slice_set s.views id w)) s.views id v w at
+              (λ q. q) (λ q. q) (λ z. z) (λ z. sym same ∙ z) k.known,
         ),
       ))
 

@@ -61,7 +61,7 @@ module _ {T : Type 0} where
     got = log_same (λ a. a.got) c.me.0 o u.pass w.pass is has.got;
   }
 
-  one_got : (c : Seat (Homes T) (Knows T)) (o : Option (View T)) (u w : Work T) (x : T) → o ≡ Some u.pass
+  pub one_got : (c : Seat (Homes T) (Knows T)) (o : Option (View T)) (u w : Work T) (x : T) → o ≡ Some u.pass
       → HasGot x u w → OneGot x (stand c o) (stands c w)
   one_got c o u w x is has = let n = has.number in record {
     one = one c o u w is has.there;
@@ -82,15 +82,15 @@ module _ {T : Type 0} where
     got = log_same (λ a. a.got) c.me.0 o u.pass w.pass is (ap (λ (a : Account T). a.got) account);
   }
 
-  still : (c : Seat (Homes T) (Knows T)) (o : Option (View T)) (u w : Work T) → o ≡ Some u.pass
+  pub still : (c : Seat (Homes T) (Knows T)) (o : Option (View T)) (u w : Work T) → o ≡ Some u.pass
       → IsStill u w → NoMore (stand c o) (stands c w)
   still c o u w is s = same c o u w is s.there s.account
 
-  told : (c : Seat (Homes T) (Knows T)) (o : Option (View T)) (u w : Work T) → o ≡ Some u.pass
+  pub told : (c : Seat (Homes T) (Knows T)) (o : Option (View T)) (u w : Work T) → o ≡ Some u.pass
       → IsTold u w → (w.pass.over ≡ true) × NoMore (stand c o) (stands c w)
   told c o u w is t = (t.told, same c o u w is t.there t.account)
 
-  saw : (c : Seat (Homes T) (Knows T)) (o : Option (View T)) (u w : Work T) → o ≡ Some u.pass
+  pub saw : (c : Seat (Homes T) (Knows T)) (o : Option (View T)) (u w : Work T) → o ≡ Some u.pass
       → IsStill u w × SawNothing (found_empty u.pass) w.pass
       → SawEmpty (stand c o) (stands c w) × NoMore (stand c o) (stands c w)
   saw c o u w is s = (

@@ -1,16 +1,17 @@
 -- The hubs of the list look how many positions are drawn and claimed.
 use Rattle.std.proofs.Common.{ℕ, zero, suc, true, true≢false, List, [], length, sym, refl, ap, subst, inl, inr, ⊎_elim, arith}
 use Rattle.std.proofs.Common.{◌≡◌, ◌+◌, ◌⊎◌, ◌∷◌, ◌++◌, ◌∙◌}
-use Rattle.std.specs.Prelude.{slice_set, IfSome, None, Option, Some}
-use mathlib.Core.Option.{some, some-injective, some-ne-none}
+use Rattle.std.specs.Prelude.{slice_set, None, Option}
+use mathlib.Core.Option.{none, some, some-injective, some-ne-none}
 use lib.ListN.{get_elem?}
-use Rattle.atomic_table.specs.Table.{State}
+use Rattle.atomic_table.specs.Table.{Allows, State, Step, step}
+use Rattle.atomic_table.specs.declared.shared.Seat.{Seat}
 use Rattle.mb_segment.specs.Vocabulary.{hub_view, is_over}
 use Rattle.mb_channel.specs.Types.{Home, Homes, Knows, View}
-use Rattle.mb_channel.specs.Homes.{Agrees, At, Changes, Finds, Grows, IsDone, IsNext, IsOver, Keeps, Made, MayGive, Sat, Stands}
-use Rattle.mb_channel.specs.Homes.{is_in, out_of, total, unlocked}
-use Rattle.mb_channel.specs.Lengths.{HasCounted, HasLooked, HaveLooked, AreWaiting, sum_of, sum_to}
-use Rattle.mb_channel.proofs.Moves.{busy_same, ended_stay, in_grows, led_grows, near_grows, next_grows, over_grows, still_told, unlocks}
+use Rattle.mb_channel.specs.Homes.{Agrees, At, Changes, Grows, IsDone, IsNext, IsOver, IsReady, Keeps, Made, Sat, Stands}
+use Rattle.mb_channel.specs.Homes.{is_in, locked, out_of, total, unlocked}
+use Rattle.mb_channel.specs.Lengths.{HasLooked, HasSummed, HaveLooked, chair_told, gives_length, sum_of, sum_to, told_length}
+use Rattle.mb_channel.proofs.Moves.{busy_same, ended_stay, in_grows, led_grows, near_grows, next_grows, over_grows, still_told, unlocks_as}
 use Rattle.mb_channel.proofs.Views.{made_map, size_set}
 
 module _ {T : Type 0} where
@@ -126,11 +127,12 @@ module _ {T : Type 0} where
   busy_looked s k gs l p m g e = let x = looked_from k.homes gs l m g e in
       ap (λ (z : View T). z.out + p) x.2.1 ∙ busy_same s k m p x.0 x.1
 
-  pub unlocks_looked : (slots id : ℕ) (me : Sat T) (y : Homes T) (hs : List (Home T)) → Stands hs y
-      → me.1 ≡ (0, y) ∷ [] → me.0.live ≡ true → me.0.holds ≡ true → HaveLooked me.0.before hs
-      → MayGive (λ v. v) slots id me
-  unlocks_looked slots id me y hs stands carried live holds looked = unlocks
-      (λ v. v) slots id me y hs stands carried live holds refl refl refl refl refl refl
+  pub unlocks_looked : (told : Option ℕ) (slots id : ℕ) (me : Sat T) → me.0.live ≡ true → me.0.holds ≡ true
+      → HasSummed me.0.before told me.1
+      → Allows Keeps slots id me 0 (λ _. 0) (λ _. gives_length told (step slots 0 0 0 none) me 0)
+  unlocks_looked told slots id me live holds sum = let hs = sum.2 in let looked = sum.4 in unlocks_as
+      (gives_length told (step slots 0 0 0 none) me 0) (told_length told (unlocked me.0)) slots id me sum.0 hs sum.3
+      sum.1 live holds refl refl refl refl refl (refl, holds, sum)
       (λ s k at part before.
       let f = k.fits id me.0 at in
       let l : HaveLooked k.homes hs = subst (λ x. HaveLooked x hs) before looked in
@@ -151,23 +153,35 @@ module _ {T : Type 0} where
           takes = λ is. next_grows k.homes hs g me.0.at (f.takes is);
           newborn = f.newborn;
           idle = λ z. absurd (omega arith);
-          ended = ended_stay s k id me.0 (unlocked me.0) at part k.all (λ n _. refl);
+          ended = ended_stay s k id me.0 (told_length told (unlocked me.0)) at part k.all (λ n _. refl);
         },
-        still_told s k id me.0 (unlocked me.0) hs at g size refl
+        still_told s k id me.0 (told_length told (unlocked me.0)) hs at g size refl
             (λ q. absurd (true≢false (sym q))) (λ q. absurd (true≢false (sym q))) refl refl refl
             (λ q. over_grows k.homes hs g me.0.at ((k.told id me.0 at).over q)),
       ))
 
-  -- what an end has counted that found the list under the lock
-  pub counted_of : (v : Knows T) (r : Option ℕ) (hs gs : List (Home T)) (l : Homes T) → Finds hs v → HaveLooked hs gs
-      → Stands gs l → IfSome r (λ n. AreWaiting l n) → IfSome r (HasCounted v)
-  counted_of v (Some n) hs gs l found looked stands waiting = record {
-    before = hs;
-    found = found;
-    after = gs;
-    looked = looked;
-    list = l;
-    stands = stands;
-    waiting = waiting;
-  }
-  counted_of v None hs gs l found looked stands waiting = tt
+  -- the list that an end gives back when it is told a length is the channel's
+  pub told_of_list : (s : State (Homes T) (Knows T)) (k : Keeps s) (id r : ℕ) (told : Option ℕ) (st : Step (Homes T))
+      (m n : Sat T) → get_elem? s.views id ≡ some m.0 → gives_length told st m r n → HasSummed k.homes told m.1
+  told_of_list s k id r told st m n at gives = subst (λ hs. HasSummed hs told m.1) (⊎_elim
+      (λ free. absurd (true≢false (sym gives.1 ∙ free.4 id m.0 at)))
+      (λ held. (held.3 id m.0 at gives.1).1) k.lock) gives.2
+
+  -- ---- the end that is told
+  seat_is : (p q : Seat (Homes T) (Knows T)) → (q.table_id ≡ p.table_id) × (q.id ≡ p.id) → q.me ≡ p.me → q ≡ p
+  seat_is p q same me i = record q { table_id = same.0 i; id = same.1 i; me = me i }
+
+  let_go : (m : Sat T) (hs : List (Home T)) → IsReady m → unlocked (locked hs m.0) ≡ m.0
+  let_go m hs r i = record m.0 { holds = sym r.1 i; before = sym r.2 i; is_open = sym r.4 i; may_add = sym r.5 i }
+
+  -- whoever has tried to count what waits is told that, or is as it was
+  pub told_nothing : (p q : Seat (Homes T) (Knows T)) → (q.table_id ≡ p.table_id) × (q.id ≡ p.id) → q.me ≡ p.me
+      → q ≡ chair_told None p
+  told_nothing p q same me = seat_is p q same me
+
+  pub told_there : (told : Option ℕ) (hs : List (Home T)) (p q : Seat (Homes T) (Knows T)) (v : Knows T)
+      → (q.table_id ≡ p.table_id) × (q.id ≡ p.id) → IsReady p.me → v ≡ locked hs p.me.0
+      → q.me ≡ (told_length told (unlocked v), []) → q ≡ chair_told told p
+  told_there told hs p q v same ready is me = seat_is (chair_told told p) q same (me
+      ∙ ap (λ u. (told_length told u, [])) (ap (λ u. unlocked u) is ∙ let_go p.me hs ready)
+      ∙ ap (λ c. (told_length told p.me.0, c)) (sym ready.3))

@@ -8,6 +8,8 @@ mod Deeds
 mod EndLogs
 mod Ends
 mod Freed
+mod Hiring
+mod Halves
 mod Lengths
 pub mod Lives
 mod Logs
@@ -16,8 +18,10 @@ mod Members
 mod Moves
 mod Order
 mod Places
+mod Remembers
 mod Rests
 pub mod Since
+mod States
 mod Stays
 pub mod Theorems
 mod Turns

@@ -1,5 +1,5 @@
 -- Ends are numbered, and the numbers of ends, senders and receivers change.
-use Rattle.std.proofs.Common.{ℕ, zero, suc, Bool, true, false, true≢false, List, [], nat_eq, sym, refl, ap, subst, inl, inr, ⊎_elim, arith, eqb-true}
+use Rattle.std.proofs.Common.{ℕ, zero, suc, Bool, true, false, true≢false, List, [], nat_eq, sym, refl, ap, subst, inl, inr, ⊎_elim, arith, eq-eqb, eqb-true}
 use Rattle.std.proofs.Common.{◌≡◌, ◌≢◌, ◌+◌, ◌-◌, ◌<◌, ◌≤◌, ◌⊎◌, ◌∷◌, ◌∙◌}
 use Rattle.std.specs.Prelude.{◌==◌, slice_set, slice_index}
 use mathlib.Core.Option.{some, none}
@@ -13,6 +13,8 @@ use Rattle.mb_channel.specs.Homes.{receives, rights, sends, tallies, total}
 use Rattle.mb_channel.specs.Tallies.{counting, counts_more, gets_number, hires_receiver, hires_sender, retires_receiver, retires_sender}
 use Rattle.mb_channel.specs.Homes.{is_in, times}
 use Rattle.mb_channel.proofs.Moves.{AllFitEnd, busy_same, ended_stay, grows_same, has_part, moved, nobody_set, tallies_set, stays_word, still_told, told_same}
+use Rattle.mb_channel.specs.Remembers.{SomeView}
+use Rattle.mb_channel.proofs.Remembers.{some_here, some_set}
 use Rattle.mb_channel.proofs.Views.{below_total, not_true, total_set}
 
 pub set_same : (l : List ℕ) (i : ℕ) → slice_set l i (slice_index l i) ≡ l
@@ -173,8 +175,10 @@ module _ {T : Type 0} where
       → get_elem? s.views id ≡ some v
       → (total sends s.views ≡ 0 → total sends (slice_set s.views id (recounted a b c d v)) ≡ 0)
       → (d ≡ true → total sends (slice_set s.views id (recounted a b c d v)) ≡ 0)
+      → (total sends (slice_set s.views id (recounted a b c d v)) ≡ 0
+      → SomeView (λ u. u.alone ≡ true) (slice_set s.views id (recounted a b c d v)))
       → AllFitEnd s k id (recounted a b c d v) k.homes k.mark
-  tell_on s k id v a b c d at none_left alone =
+  tell_on s k id v a b c d at none_left alone loner =
       let w = recounted a b c d v in
       let nobody = nobody_set s.views id v w at refl in
       let t = told_same k.homes k.homes k.mark s.views (slice_set s.views id w) v (grows_same k.homes) refl none_left
@@ -189,7 +193,17 @@ module _ {T : Type 0} where
           over = t.over;
           last = t.last;
         },
+        record {
+          closer = λ z. some_set (λ u. u.shut ≡ true) s.views id v w at (λ q. q) (k.known.closer z);
+          loner = loner;
+        },
       )
+
+  -- none was left before, and somebody knew
+  still_alone : (s : State (Homes T) (Knows T)) (k : Keeps s) (id : ℕ) (v w : Knows T) → get_elem? s.views id ≡ some v
+      → w.alone ≡ v.alone → total sends s.views ≡ 0 → SomeView (λ u. u.alone ≡ true) (slice_set s.views id w)
+  still_alone s k id v w at same gone = some_set (λ u. u.alone ≡ true) s.views id v w at (λ q. same ∙ q)
+      (k.known.loner gone)
 
   pub senders_word : (s : State (Homes T) (Knows T)) (k : Keeps s) → slice_index s.words 2 ≡ total sends s.views
   senders_word s k = ⊎_elim (λ x. ap (λ l. slice_index l 2) x.1) (λ x. ap (λ l. slice_index l 2) x.1) k.lock
@@ -217,7 +231,8 @@ module _ {T : Type 0} where
             let x = is_new (total receives s.views) (total receives (slice_set s.views id w)) r n in
             ap (λ l. slice_set l 3 new) e ∙ (λ i. lock ∷ y i ∷ sym same i ∷ x i ∷ k.mark ∷ [])
             ),
-        tell_on s k id v v.rights v.sends c v.alone at (λ q. same ∙ q) (λ q. same ∙ (k.told id v at).alone q),
+        tell_on s k id v v.rights v.sends c v.alone at (λ q. same ∙ q) (λ q. same ∙ (k.told id v at).alone q)
+            (λ q. still_alone s k id v w at refl (sym same ∙ q)),
       )
 
   pub adds : (slots id seen new : ℕ) (me : Sat T) → me.0.live ≡ true → new ≡ seen + 1
@@ -238,10 +253,10 @@ module _ {T : Type 0} where
             ap (λ l. slice_set l 1 new) e ∙ (λ i. lock ∷ x i ∷ sym same i ∷ z i ∷ k.mark ∷ [])
             ),
         tell_on s k id v (v.rights + 1) v.sends v.receives v.alone at (λ q. same ∙ q)
-            (λ q. same ∙ (k.told id v at).alone q),
+            (λ q. same ∙ (k.told id v at).alone q) (λ q. still_alone s k id v w at refl (sym same ∙ q)),
       ))
 
-  pub hires_one : (slots id seen new : ℕ) (me : Sat T) → me.0.live ≡ true → 0 < me.0.sends → new ≡ seen + 1
+  pub hires_one : (slots id seen new : ℕ) (me : Sat T) → me.0.live ≡ true → 0 < seen → new ≡ seen + 1
       → Allows Keeps slots id me 2 (λ n. either (n == seen) new n)
       (counting sends (λ _. hires_sender) (step slots 2 seen new none) me)
   hires_one slots id seen new me live some_ one s k len at small = let v = me.0 in
@@ -255,14 +270,14 @@ module _ {T : Type 0} where
       let c = total_set receives s.views id v w at in
       let y : total rights s.views ≡ total rights (slice_set s.views id w) = omega arith in
       let z : total receives s.views ≡ total receives (slice_set s.views id w) = omega arith in
-      let low = below_total sends s.views id v at in (
+      let word = senders_word s k in (
         λ lock e. (
             let n = sym (ap (λ l. slice_index l 2) e) ∙ is in
             let x : new ≡ total sends (slice_set s.views id w) = omega arith in
             ap (λ l. slice_set l 2 new) e ∙ (λ i. lock ∷ y i ∷ x i ∷ z i ∷ k.mark ∷ [])
             ),
         tell_on s k id v v.rights (v.sends + 1) v.receives v.alone at (λ q. absurd (omega arith))
-            (λ q. let e = (k.told id v at).alone q in absurd (omega arith)),
+            (λ q. let e = (k.told id v at).alone q in absurd (omega arith)) (λ q. absurd (omega arith)),
       )) s k len at small
 
   pub retires_one : (slots id seen new : ℕ) (me : Sat T) → me.0.live ≡ true → 0 < me.0.sends → seen ≡ new + 1
@@ -285,7 +300,8 @@ module _ {T : Type 0} where
             ap (λ l. slice_set l 2 new) e ∙ (λ i. lock ∷ y i ∷ x i ∷ z i ∷ k.mark ∷ [])
             ),
         tell_on s k id v v.rights (v.sends - 1) v.receives (nat_eq seen 1) at (λ q. omega arith)
-            (λ q. let e = eqb-true seen 1 q in omega arith),
+            (λ q. let e = eqb-true seen 1 q in omega arith)
+            (λ q. some_here (λ u. u.alone ≡ true) s.views id v w at (eq-eqb seen 1 (omega arith))),
       )) s k len at small
 
   -- the same for receivers

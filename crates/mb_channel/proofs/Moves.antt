@@ -10,7 +10,9 @@ use Rattle.atomic_table.specs.Table.{State, Act, keeps, takes, gives, step, step
 use Rattle.atomic_table.proofs.Lists.{exchanged, set_again, at_set, set_else}
 use Rattle.mb_channel.specs.Types.{Home, Homes, Knows, Past, arc_value}
 use Rattle.mb_channel.specs.Homes.{Agrees, AllPast, AreLed, AreOver, Fits, FitsEnd, Grows, IsBusy, IsFree, IsHeld, IsIn, IsNear, IsNext, Keeps, Made, MayGive, NobodyTold, PastFits}
-use Rattle.mb_channel.specs.Homes.{Sat, IsSpent, Stands, count, how_many, is_in, locked, made_by, made_count, tallies, out_of, receives, rights, sends, takes_lock, total, unlocked}
+use Rattle.mb_channel.specs.Homes.{Sat, IsSpent, Stands, count, gives_lock, how_many, is_in, locked, made_by, made_count, tallies, out_of, receives, rights, sends, takes_lock, total, unlocked}
+use Rattle.mb_channel.specs.Remembers.{Remembers}
+use Rattle.mb_channel.proofs.Remembers.{still_remembers}
 use Rattle.mb_channel.proofs.Views.{below_total, in_here, none_many, not_true, past_map, size_set, there, total_set}
 
 module _ {T : Type 0} where
@@ -103,6 +105,7 @@ module _ {T : Type 0} where
   abbrev pub AllFitEnd : (s : State (Homes T) (Knows T)) → Keeps s → ℕ → Knows T → List (Home T) → ℕ → Type 0
   AllFitEnd s k id w hs mark = ((j : ℕ) (u : Knows T) → j ≢ id → get_elem? s.views j ≡ some u
       → FitsEnd hs mark (slice_set s.views id w) u) × FitsEnd hs mark (slice_set s.views id w) w
+      × Remembers mark (total sends (slice_set s.views id w)) (slice_set s.views id w)
 
   -- where the list and the number of senders stay
   pub still_told : (s : State (Homes T) (Knows T)) (k : Keeps s) (id : ℕ) (v w : Knows T) (hs : List (Home T))
@@ -127,6 +130,8 @@ module _ {T : Type 0} where
           over = over;
           last = λ n q. t.last n (sym last ∙ q);
         },
+        still_remembers k.mark k.mark (total sends s.views) (total sends (slice_set s.views id w)) s.views id v w at
+            (λ q. shut ∙ q) (λ q. alone ∙ q) (λ z. z) (λ z. sym e ∙ z) k.known,
       )
 
   -- a step of one that counts for an end. `mine`: its new view fits
@@ -177,6 +182,7 @@ module _ {T : Type 0} where
         (λ (t : (j ≡ id) × (w ≡ u)). subst (λ (z : Knows T). FitsEnd hs mark (slice_set s.views id w) z) t.1 tells.1)
         (λ (t : (j ≢ id) × (get_elem? s.views j ≡ some u)). tells.0 j u t.0 t.1)
         (at_set s.views id j w u e);
+    known = tells.2;
   }
 
   -- nothing was issued or taken back
@@ -289,19 +295,18 @@ module _ {T : Type 0} where
       × ((m : ℕ) (h : Home T) → get_elem? hs m ≡ some h → out_of h + is_in m v ≡ total (is_in m) s.views + is_in m w)
       × Fits hs new (slice_set s.views id w) id w × AllFitEnd s k id w hs k.mark
 
-  pub unlocks : (f : Knows T → Knows T) (slots id : ℕ) (me : Sat T) (y : Homes T) (hs : List (Home T)) → Stands hs y
-      → me.1 ≡ (0, y) ∷ [] → me.0.live ≡ true → me.0.holds ≡ true
-      → (f (unlocked me.0)).rights ≡ me.0.rights → (f (unlocked me.0)).sends ≡ me.0.sends
-      → (f (unlocked me.0)).receives ≡ me.0.receives → (f (unlocked me.0)).ended ≡ me.0.ended
-      → (f (unlocked me.0)).holds ≡ false → (f (unlocked me.0)).found ≡ me.0.found
+  -- P is what the step tells
+  pub unlocks_as : (P : Sat T → Type 0) (w : Knows T) (slots id : ℕ) (me : Sat T) (y : Homes T) (hs : List (Home T))
+      → Stands hs y → me.1 ≡ (0, y) ∷ [] → me.0.live ≡ true → me.0.holds ≡ true
+      → w.rights ≡ me.0.rights → w.sends ≡ me.0.sends → w.receives ≡ me.0.receives → w.ended ≡ me.0.ended
+      → w.holds ≡ false → P (w, [])
       → ((s : State (Homes T) (Knows T)) (k : Keeps s) → get_elem? s.views id ≡ some me.0 → 0 < me.0.rights
-      → me.0.before ≡ k.homes → Lawful s k id me.0 hs (f (unlocked me.0)))
-      → MayGive f slots id me
-  unlocks f slots id me y hs stands carried live holds ends senders receivers past lets same go s k len at small =
+      → me.0.before ≡ k.homes → Lawful s k id me.0 hs w)
+      → Allows Keeps slots id me 0 (λ _. 0) (λ _. P)
+  unlocks_as P w slots id me y hs stands carried live holds ends senders receivers past lets tells go s k len at small =
       ⊎_elim
       (λ free. absurd (true≢false (sym holds ∙ free.4 id me.0 at)))
       (λ held.
-      let w = f (unlocked me.0) in
       let mine = held.3 id me.0 at holds in
       let part = has_part k.homes k.all s.views id me.0 (k.fits id me.0 at) live in
       let r = go s k at part mine.1 in
@@ -323,6 +328,19 @@ module _ {T : Type 0} where
                   ((held.3 j u t.1 on).0 ∙ sym mine.0)))
                   (at_set s.views id j w u e),
             )),
-        (refl, ap rest carried, same),
+        subst (λ c. P (w, c)) (sym (ap rest carried)) tells,
       ))
       k.lock
+
+  pub unlocks : (f : Knows T → Knows T) (slots id : ℕ) (me : Sat T) (y : Homes T) (hs : List (Home T)) → Stands hs y
+      → me.1 ≡ (0, y) ∷ [] → me.0.live ≡ true → me.0.holds ≡ true
+      → (f (unlocked me.0)).rights ≡ me.0.rights → (f (unlocked me.0)).sends ≡ me.0.sends
+      → (f (unlocked me.0)).receives ≡ me.0.receives → (f (unlocked me.0)).ended ≡ me.0.ended
+      → (f (unlocked me.0)).holds ≡ false → (f (unlocked me.0)).found ≡ me.0.found
+      → (f (unlocked me.0)).lengths ≡ me.0.lengths
+      → ((s : State (Homes T) (Knows T)) (k : Keeps s) → get_elem? s.views id ≡ some me.0 → 0 < me.0.rights
+      → me.0.before ≡ k.homes → Lawful s k id me.0 hs (f (unlocked me.0)))
+      → MayGive f slots id me
+  unlocks f slots id me y hs stands carried live holds ends senders receivers past lets same lengths = unlocks_as
+      (gives_lock f (step slots 0 0 0 none) me 0) (f (unlocked me.0)) slots id me y hs stands carried live holds
+      ends senders receivers past lets (refl, refl, same, lengths)

@@ -1,8 +1,8 @@
 -- The points of a channel, of a moment and of a whole life.
 use Rattle.std.proofs.Common.{ℕ, List, length, ap, ◌∙◌}
-use Rattle.mb_channel.specs.ChannelTheorem.{EachMoment, End, History, Moment, TakenInTurn, WholeLife, life}
+use Rattle.mb_channel.specs.ChannelTheorem.{EachMoment, End, History, Moment, TakenInTurn, WholeLife}
 use Rattle.mb_channel.specs.Segments.{AreLogs, EachKeeps, InTurn, KeepsEnd}
-use Rattle.mb_channel.proofs.Turns.{awake_of, ended_of, left_here, turns}
+use Rattle.mb_channel.proofs.Turns.{all_taken, awake_of, left_here, turns}
 use Rattle.mb_channel.proofs.Logs.{sent_logs, taken_logs}
 use Rattle.mb_channel.specs.Stays.{AreStays, Told, life_of}
 use Rattle.mb_channel.proofs.Ends.{got_so, left_so, sent_so, turn_so}
@@ -12,7 +12,7 @@ module _ {T : Type 0} where
   each_moment m k turn end = record {
     turn = turns m.segments k turn;
     empty = λ s has came on none. ap length (left_here m.segments turn s has came on ∙ none);
-    closed = λ is. let e = end.told is in (e.0, ap length (ended_of m.segments turn e.1));
+    closed = λ is. let e = end.told is in (e.0, ap length (all_taken m.segments e.1));
     refused = end.refused;
     awake = awake_of m.segments k turn;
     ended = end.ended;

@@ -1,9 +1,10 @@
 -- Segments that follow each other in turn.
 use Rattle.std.proofs.Common.{ℕ, zero, suc, ◌≡◌, ◌+◌, ◌<◌, ◌≤◌, ◌⊎◌, Bool, true, false, List, [], ◌∷◌, ◌++◌, length, map, sym, refl, ap, ◌∙◌, subst, inl, inr, ⊎_elim, arith, true≢false}
-use Rattle.std.specs.Prelude.{Contains, slice_index_or}
+use Rattle.std.specs.Prelude.{All, Contains, slice_index_or}
 use Rattle.std.proofs.lemmas.List.{append-nil, append_assoc, map-append}
+use Rattle.std.proofs.lemmas.List.Elements.{All-head, All-tail}
 use Rattle.mb_channel.specs.ChannelTheorem.{History, IsAwake, Segment, TakenInTurn, entries, left, sent, taken}
-use Rattle.mb_channel.specs.Segments.{EachKeeps, InTurn, Keeps, LastIsTaken}
+use Rattle.mb_channel.specs.Segments.{EachKeeps, InTurn, Keeps}
 
 module _ {T : Type 0} where
   abbrev pub lives : List (Segment T) → List (History T)
@@ -66,15 +67,10 @@ module _ {T : Type 0} where
   left_here [] turn s has came on = absurd (omega (arith, has.1))
   left_here (t ∷ ss) turn s has came on = (left_at t ss turn s has.0 has.1 has.2 came on).1
 
-  last_of : (s₀ : Segment T) (ss : List (Segment T)) → InTurn (s₀ ∷ ss) → LastIsTaken (s₀ ∷ ss)
-      → (s₀.is_visited ≡ true) × (left (lives (s₀ ∷ ss)) ≡ [])
-  last_of s₀ [] turn last = (last.0, append-nil s₀.history.rest ∙ last.1)
-  last_of s₀ (t ∷ ss) turn last = let r = last_of t ss turn.1 last in
-      let e = turn.0.1 r.0 in (e.0, (λ i. e.1 i ++ r.1 i))
-
-  pub ended_of : (ss : List (Segment T)) → InTurn ss → LastIsTaken ss → left (lives ss) ≡ []
-  ended_of [] turn last = refl
-  ended_of (s ∷ ss) turn last = (last_of s ss turn last).1
+  pub all_taken : (ss : List (Segment T)) → All (λ s. s.history.rest ≡ []) ss → left (lives ss) ≡ []
+  all_taken [] none = refl
+  all_taken (s ∷ ss) none = (λ i. All-head (λ s. s.history.rest ≡ []) s ss none i
+      ++ all_taken ss (All-tail (λ s. s.history.rest ≡ []) s ss none) i)
 
   -- ---- sleep
   keeps_at : (ss : List (Segment T)) → EachKeeps ss → (s : Segment T) (k : ℕ)

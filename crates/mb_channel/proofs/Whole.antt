@@ -42,6 +42,7 @@ module _ {T : Type 0} where
     agrees = record { here = λ k h at. absurd (some-ne-none h (sym at)); none_behind = λ k _. refl; turn = tt };
     told = λ id v at. subst (λ (z : Knows T). FitsEnd [] 1 (first_view ∷ []) z) (sym (first_is id v at))
         (knows_nothing [] 1 (first_view ∷ []) first_view refl refl refl refl refl refl);
+    known = record { closer = λ z. absurd (omega arith); loner = λ z. absurd (omega arith) };
     balance = λ f. omega arith;
     once = λ n. omega arith;
     crowd = λ m h e. absurd (some-ne-none h (sym e));

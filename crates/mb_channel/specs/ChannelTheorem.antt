@@ -92,7 +92,7 @@ pub record Moment (T : Type 0) : Type 0 where
   pub senders : ℕ  -- how many ends may send, and how many may receive
   pub receivers : ℕ
   pub is_closed : Bool  -- `close` was called
-  pub closers : ℕ  -- threads that called it, or took the last sender away, and have still to cut the last segment
+  pub closers : ℕ  -- ends that know it is closed or has no sender, until one is told that all segments are over
   pub is_told : Bool  -- a receive has answered "closed", now or before
   pub is_refused : Bool  -- a send has answered "closed", now or before
 

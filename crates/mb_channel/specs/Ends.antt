@@ -1,5 +1,5 @@
 -- What an end sent and received in all, and which channel it belongs to.
-use Rattle.std.specs.Prelude.{◌≡◌, ◌<◌, ◌≤◌, ◌⊎◌, Bool, List, [], map, true, false, IfSome, Option, is_some}
+use Rattle.std.specs.Prelude.{◌≡◌, ◌<◌, ◌≤◌, ◌⊎◌, Bool, List, [], map, true, false, ℕ, IfSome, Option, is_some}
 use Rattle.atomic_table.specs.declared.shared.Seat.{Seat}
 use Rattle.mb_segment.specs.Vocabulary.{is_over}
 use Rattle.mb_channel.specs.Types.{Homes, Knows, View}
@@ -7,10 +7,15 @@ use Rattle.mb_channel.specs.declared.place.Place.{Place}
 use Rattle.mb_channel.specs.Deeds.{Deed}
 use Rattle.mb_channel.specs.declared.end.End.{End}
 use Rattle.mb_channel.specs.Closing.{KnowsEnd}
+use Rattle.mb_channel.specs.Lengths.{chair_told}
 use Rattle.mb_channel.specs.Inside.{Log, found_there, known_there, log_in, log_of_past, pass_there, told_in}
 
 abbrev pub view_of : {T : Type 0} → End T → Knows T
 view_of e = e.chair.me.0
+
+-- the end that was told this length. Nothing else of it is new
+abbrev pub end_told : {T : Type 0} → Option ℕ → End T → End T
+end_told told e = record e { chair = chair_told told e.chair }
 
 -- all calls by which the end sent a value, and all by which it received one, in order
 abbrev pub sent_by : {T : Type 0} → End T → List (Deed T)

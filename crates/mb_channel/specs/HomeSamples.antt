@@ -2,8 +2,10 @@
 use Rattle.std.specs.Prelude.{ℕ, List, Some, [], true, ◌∷◌}
 use Rattle.mb_channel.specs.declared.place.Place.{Place}
 use Rattle.mb_channel.specs.Types.{Knows, Past, Visit}
+use Rattle.mb_channel.specs.Deeds.{deed}
 use Rattle.mb_channel.specs.Homes.{Made, first_view}
-use Rattle.mb_channel.specs.LifeSamples.{last_end, one_got, one_sent, two_sent, visit}
+use Rattle.mb_channel.specs.Inside.{Log}
+use Rattle.mb_channel.specs.LifeSamples.{last_end, one_got, one_sent, position, two_sent, visit}
 
 -- this visit of end n
 abbrev pub made : ℕ → Visit ℕ → Made ℕ
@@ -43,3 +45,7 @@ told_none = record first_view { shut = true; last = Some 0 }
 -- ---- places
 abbrev pub place : ℕ → ℕ → Place
 place k n = record { segment = k; number = n }
+
+-- end 1 sent 10, and did nothing else
+abbrev pub returner : Log ℕ
+returner = record { number = 1; sent = deed 1 (position 3 10) ∷ []; got = [] }

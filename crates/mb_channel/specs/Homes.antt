@@ -1,6 +1,5 @@
 -- The list of segments under the channel's lock, and which end did what in which segment.
--- Words: 0 the lock, 1 to 3 for how many ends, senders and receivers the ends count, 4 the mark: 1, and 0 once the list is
--- closed. Slot 0: the segments.
+-- Words: 0 the lock, 1 to 3 how many ends, senders and receivers the ends count, 4 the mark: 0 once closed. Slot 0: segments.
 use Rattle.std.specs.Prelude.{ℕ, suc, ◌≡◌, ◌≢◌, ◌+◌, ◌-◌, ◌<◌, ◌≤◌, ◌⊎◌, ◌++◌, ◌&&◌, ◌||◌, Bool, true, false, nat_eq, if◌then◌else◌}
 use Rattle.std.specs.Prelude.{List, [], ◌∷◌, length, slice_set, Option, Some, None}
 use mathlib.Core.Option.{some, none}
@@ -8,6 +7,7 @@ use lib.ListN.{get_elem?}
 use Rattle.atomic_table.specs.Table.{Allows, Me, State, Step, step}
 use Rattle.atomic_table.specs.declared.shared.Seat.{Seat}
 use Rattle.mb_channel.specs.Types.{Account, Arc, Global, Home, Homes, Knows, Pass, Past, Segment, View, Visit, arc_value}
+use Rattle.mb_channel.specs.Remembers.{Remembers}
 use Rattle.mb_segment.specs.Vocabulary.{IsWhole as SegmentIsWhole, hub_view, is_over, issued, new_hub, took_back}
 
 -- ---- the visits of all ends, the newest first
@@ -50,8 +50,7 @@ IsOver h = is_over (hub_view h.hub) ≡ true
 abbrev pub out_of : {T : Type 0} → Home T → ℕ
 out_of h = (hub_view h.hub).out
 
--- its segment could be freed: no value can come any more, no pass is out, and nothing was left. What its passes did stays
--- known, as `came_back h`
+-- its segment could be freed: no value can come any more, no pass is out, and nothing was left. `came_back h` stays known
 pub record IsFreed {T : Type 0} (h : Home T) : Type 0 where
   pub done : IsDone h
   pub back : out_of h ≡ 0
@@ -123,6 +122,7 @@ first_view = record {
   shut = false;
   last = None;
   found = 0;
+  lengths = [];
 }
 
 abbrev pub spent_view : {T : Type 0} → Knows T
@@ -232,8 +232,7 @@ IsFree {T} s hs mark = (l : Homes T) × (s.words ≡ 0 ∷ tallies s.views mark)
     × NobodyHolds s.views
 
 abbrev pub IsHeld : {T : Type 0} → State (Homes T) (Knows T) → List (Home T) → ℕ → Type 0
-IsHeld s hs mark = (holder : ℕ) × (s.words ≡ 1 ∷ tallies s.views mark) × (s.homes ≡ none ∷ [])
-    × OneHolds s.views hs holder
+IsHeld s hs mark = (holder : ℕ) × (s.words ≡ 1 ∷ tallies s.views mark) × (s.homes ≡ none ∷ []) × OneHolds s.views hs holder
 
 pub record Keeps {T : Type 0} (s : State (Homes T) (Knows T)) : Type 0 where
   pub homes : List (Home T)
@@ -248,6 +247,7 @@ pub record Keeps {T : Type 0} (s : State (Homes T) (Knows T)) : Type 0 where
   pub fresh : (n : ℕ) → length s.views ≤ n → made_by n all ≡ []
   pub fits : (id : ℕ) (v : Knows T) → get_elem? s.views id ≡ some v → Fits homes all s.views id v
   pub told : (id : ℕ) (v : Knows T) → get_elem? s.views id ≡ some v → FitsEnd homes mark s.views v
+  pub known : Remembers mark (total sends s.views) s.views
 
 -- ---- what a step does to a view
 abbrev pub view_in : {T : Type 0} → Seat (Homes T) (Knows T) → Knows T
@@ -297,8 +297,8 @@ newborn_view a b v = record first_view {
 abbrev pub splits_off : {T : Type 0} → ℕ → ℕ → Knows T → Knows T
 splits_off a b v = record v { rights = v.rights - 1; sends = v.sends - a; receives = v.receives - b }
 
--- it has left its segment, of which its pass knows this. If that is done, it may receive in the next one if it could in
--- that. It was orderly only if the pass was told that the segment is over
+-- it has left its segment. If that is done, it may receive in the next one if it could in that. It was orderly only if the
+-- pass was told that the segment is over
 abbrev pub left_segment : {T : Type 0} → View T → Bool → Knows T → Knows T
 left_segment x done v = record v {
   visits = record { segment = v.at; account = x.account } ∷ v.visits;
@@ -332,7 +332,7 @@ takes_lock {T} st m r n = (r ≡ 0 → (l : Homes T) × (hs : List (Home T)) × 
     × (r ≢ 0 → n ≡ m)
 
 abbrev pub gives_lock : {T : Type 0} → (Knows T → Knows T) → Step (Homes T) → Sat T → ℕ → Sat T → Type 0
-gives_lock f st m r n = (n.0 ≡ f (unlocked m.0)) × (n.1 ≡ []) × (n.0.found ≡ m.0.found)
+gives_lock f st m r n = (n.0 ≡ f (unlocked m.0)) × (n.1 ≡ []) × (n.0.found ≡ m.0.found) × (n.0.lengths ≡ m.0.lengths)
 
 -- giving the lock back keeps the rule, whatever the other ends do
 abbrev pub MayGive : {T : Type 0} → (Knows T → Knows T) → ℕ → ℕ → Sat T → Type 0

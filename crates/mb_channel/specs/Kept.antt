@@ -9,6 +9,7 @@ use Rattle.mb_channel.specs.declared.posting.Posted.TheVariants as posted
 use Rattle.mb_channel.specs.Closing.{KnowsEnd}
 use Rattle.mb_channel.specs.Ends.{Standing}
 use Rattle.mb_channel.specs.Inside.{Log}
+use Rattle.mb_channel.specs.Lengths.{chair_told}
 use Rattle.mb_channel.specs.Places.{pass_at}
 use Rattle.mb_channel.specs.Standing.{NoMore, OneSent, got_in, sent_in}
 use Rattle.mb_channel.specs.Wakes.{Wakes, untold_of, wakes}
@@ -35,6 +36,10 @@ untold_at (Some b) = untold_of b.debt
 abbrev pub wakes_kept : {T : Type 0} → KeptSender T → Wakes
 wakes_kept k = wakes (k.chair.me.0.gave + gave_at k.busy) (untold_at k.busy)
 
+-- the sender that was told this length. Nothing else of it is new
+abbrev pub kept_told : {T : Type 0} → Option ℕ → KeptSender T → KeptSender T
+kept_told told k = record k { chair = chair_told told k.chair }
+
 -- it owes nothing
 abbrev pub OwesNothing : {T : Type 0} → Option (Busy T) → Type 0
 OwesNothing None = Unit {0}
@@ -52,8 +57,9 @@ abbrev pub IsKeptFresh : {T : Type 0} → KeptSender T → Type 0
 IsKeptFresh k = (sent_in (stand_kept k) ≡ []) × (got_in (stand_kept k) ≡ []) × (k.chair.me.0.ended ≡ [])
     × IsSettled k
 
--- the value was sent and nothing is owed, or it was sent, or it comes back
+-- the value was sent and nothing is owed, or it was sent, or it comes back and nothing is owed, or it comes back
 abbrev pub OfPosted : {T : Type 0} → Posted T → T → Standing T → Standing T → Type 0 → Type 0
 OfPosted posted.Sent x v w rest = OneSent x v w × rest
 OfPosted posted.Owes x v w rest = OneSent x v w
+OfPosted (posted.Again y) x v w rest = NoMore v w × (y ≡ x) × rest
 OfPosted (posted.Back y) x v w rest = NoMore v w × (y ≡ x)

@@ -1,8 +1,10 @@
--- How many values wait, as the hubs of the list count them.
-use Rattle.std.specs.Prelude.{ℕ, zero, suc, ◌≡◌, ◌+◌, List, [], ◌∷◌, length, IfSome, Option}
-use Rattle.mb_segment.specs.Vocabulary.{hub_view}
+-- How many values wait, as the hubs of the list count them, and an end that is told so.
+use Rattle.std.specs.Prelude.{ℕ, zero, suc, ◌≡◌, ◌+◌, ◌≤◌, List, [], ◌∷◌, length, true, IfSome, None, Option, Some}
+use Rattle.atomic_table.specs.Table.{Step}
+use Rattle.atomic_table.specs.declared.shared.Seat.{Seat}
+use Rattle.mb_segment.specs.Vocabulary.{IsViewOf, Keeps, SegmentState, claimed_in, drawn_in, hub_view}
 use Rattle.mb_channel.specs.Types.{Home, Homes, Knows}
-use Rattle.mb_channel.specs.Homes.{Finds, Stands}
+use Rattle.mb_channel.specs.Homes.{Sat, Stands, unlocked}
 
 -- how many positions of the segment its hub knows to be drawn, and claimed
 abbrev pub drawn_there : {T : Type 0} → Home T → ℕ
@@ -31,22 +33,33 @@ HaveLooked [] (g ∷ gs) = ⊥
 HaveLooked (h ∷ hs) [] = ⊥
 HaveLooked (h ∷ hs) (g ∷ gs) = HasLooked h g × HaveLooked hs gs
 
--- n values wait in the segments of the list
+-- as far as the hubs know, n values wait in the segments of the list
 abbrev pub AreWaiting : {T : Type 0} → Homes T → ℕ → Type 0
 AreWaiting l n = n + sum_of taken_there l.list.items ≡ sum_of drawn_there l.list.items
 
--- a seat has the list, and hs were its segments. Since then each hub looked. If n is told, so many values wait
+-- whatever state its table is in, if the hub knows this: so many positions are drawn and claimed, or more
+abbrev pub IsKnown : {T : Type 0} → Home T → Type 0
+IsKnown {T} h = (s : SegmentState T) → Keeps s → (n : ℕ) → IsViewOf s n (hub_view h.hub)
+    → (drawn_there h ≤ drawn_in s) × (taken_there h ≤ claimed_in s)
+
+-- a seat has the list, and hs were its segments. Since then hubs looked. If n is told, so many wait as far as they know
 abbrev pub HasSummed : {T : Type 0} → List (Home T) → Option ℕ → List (ℕ × Homes T) → Type 0
 HasSummed {T} hs told held = (l : Homes T) × (held ≡ (0, l) ∷ []) × (gs : List (Home T)) × Stands gs l
     × HaveLooked hs gs × IfSome told (λ n. AreWaiting l n)
 
--- an end with this view took the lock, and found these segments. Then each hub looked, of those that are not freed, and
--- n values wait there
-pub record HasCounted {T : Type 0} (v : Knows T) (n : ℕ) : Type 0 where
-  pub before : List (Home T)
-  pub found : Finds before v
-  pub after : List (Home T)
-  pub looked : HaveLooked before after
-  pub list : Homes T
-  pub stands : Stands after list
-  pub waiting : AreWaiting list n
+-- ---- what an end is told
+-- the lengths that it was told, and now this one, if it was told one
+abbrev pub and_length : Option ℕ → List ℕ → List ℕ
+and_length None ns = ns
+and_length (Some n) ns = n ∷ ns
+
+-- the view, and the chair, of an end that was told this. Nothing else of it is new
+abbrev pub told_length : {T : Type 0} → Option ℕ → Knows T → Knows T
+told_length told v = record v { lengths = and_length told v.lengths }
+
+abbrev pub chair_told : {T : Type 0} → Option ℕ → Seat (Homes T) (Knows T) → Seat (Homes T) (Knows T)
+chair_told told p = record p { me = (told_length told p.me.0, p.me.1) }
+
+-- an end that has the lock gives it back, and is told this of the list that it gives back
+abbrev pub gives_length : {T : Type 0} → Option ℕ → Step (Homes T) → Sat T → ℕ → Sat T → Type 0
+gives_length told st m r n = (n ≡ (told_length told (unlocked m.0), [])) × (m.0.holds ≡ true) × HasSummed m.0.before told m.1

@@ -4,6 +4,7 @@ pub mod Segments
 pub mod Stays
 pub mod Types
 pub mod Deeds
+pub mod Remembers
 pub mod Homes
 pub mod Answers
 pub mod Lives
@@ -18,6 +19,7 @@ pub mod Wakes
 pub mod Told
 pub mod Receives
 pub mod Rests
+pub mod Returned
 pub mod Closing
 pub mod Tallies
 pub mod HomeSamples
@@ -25,3 +27,8 @@ pub mod Places
 pub mod Posted
 pub mod Kept
 pub mod Lengths
+pub mod States
+pub mod Begun
+pub mod Halves
+pub mod Drawing
+pub mod Claiming

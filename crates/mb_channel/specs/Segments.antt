@@ -1,6 +1,6 @@
 -- What each segment keeps, what their list keeps, and what the ends' logs are made of. A channel's theorem follows.
 use Rattle.std.specs.Prelude.{ℕ, ◌≡◌, ◌<◌, ◌≤◌, ◌⊎◌, ◌+◌, ◌++◌, true, false, All, List, [], ◌∷◌, length, map}
-use Rattle.mb_channel.specs.ChannelTheorem.{End, History, IsOver, Moment, Segment, Spot, entries, left, spots_by, spots_to, taken}
+use Rattle.mb_channel.specs.ChannelTheorem.{End, History, IsOver, Moment, Segment, Spot, entries, left, spots_by, spots_to}
 
 -- a segment's own rule
 pub record Keeps {T : Type 0} (s : Segment T) : Type 0 where
@@ -22,15 +22,9 @@ abbrev pub InTurn : {T : Type 0} → List (Segment T) → Type 0
 InTurn [] = Unit {0}
 InTurn (s ∷ ss) = Leads s ss × InTurn ss
 
--- a receiver has come to the last segment, and nothing waits there
-abbrev pub LastIsTaken : {T : Type 0} → List (Segment T) → Type 0
-LastIsTaken [] = ⊥
-LastIsTaken (s ∷ []) = (s.is_visited ≡ true) × (s.history.rest ≡ [])
-LastIsTaken (s ∷ t ∷ ss) = LastIsTaken (t ∷ ss)
-
 -- the words of the channel itself
 pub record KeepsEnd {T : Type 0} (m : Moment T) : Type 0 where
-  pub told : m.is_told ≡ true → IsOver m × LastIsTaken m.segments
+  pub told : m.is_told ≡ true → IsOver m × All (λ s. s.history.rest ≡ []) m.segments
   pub refused : m.is_refused ≡ true → (m.is_closed ≡ true) ⊎ (m.receivers ≡ 0)
   pub ended : (m.is_closed ≡ true) ⊎ (m.senders ≡ 0) → (0 < m.closers) ⊎ All (λ s. s.is_over ≡ true) m.segments
 

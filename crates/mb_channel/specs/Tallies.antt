@@ -2,7 +2,7 @@
 use Rattle.std.specs.Prelude.{ℕ, suc, Bool, List, Some, false, true, length, if◌then◌else◌, ◌+◌, ◌-◌, ◌≡◌, ◌≢◌, ◌≤◌, ◌⊎◌}
 use Rattle.atomic_table.specs.Table.{Step}
 use Rattle.mb_channel.specs.Types.{Home, Homes, Knows}
-use Rattle.mb_channel.specs.Homes.{IsNext, Sat}
+use Rattle.mb_channel.specs.Homes.{IsNext, Sat, sends}
 
 abbrev pub gets_number : {T : Type 0} → Step (Homes T) → Sat T → ℕ → Sat T → Type 0
 gets_number st m r n = (id : ℕ) × (n ≡ (record m.0 { live = true; number = id }, m.1))
@@ -34,6 +34,11 @@ saw_none v = record v { alone = true }
 
 abbrev pub saw_closed : {T : Type 0} → Knows T → Knows T
 saw_closed v = record v { shut = true }
+
+-- an exchange of the number of senders, for one more. If none is left, the end sees that. Else it knew of no such thing
+abbrev pub hiring : {T : Type 0} → Step (Homes T) → Sat T → ℕ → Sat T → Type 0
+hiring st m r n = (r ≡ 0 → (n.1 ≡ m.1) × (n.0 ≡ saw_none m.0) × (m.0.sends ≡ 0))
+    × (r ≢ 0 → (m.0.alone ≡ false) × counting sends (λ _. hires_sender) st m r n)
 
 -- it saw that the list is not closed. While it has the lock, that stays so
 abbrev pub saw_open : {T : Type 0} → Knows T → Knows T

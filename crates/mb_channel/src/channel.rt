@@ -11,7 +11,7 @@ pub(crate) const TRIES: u32 = 4;
 pub enum Refused {
     /// The allocator refused the memory for the next segment.
     NoMemory,
-    /// The channel is closed, or no sender is left. For a receiver: and nothing waits in it, for ever.
+    /// The channel is closed, or no sender is left. If a receive tells it: and nothing waits in it, for ever.
     Closed,
     /// So many ends are in a segment, or there were so many segments, that they cannot be counted.
     Crowded,

@@ -1,15 +1,17 @@
 //! How many values wait.
-ghost use Rattle.std.specs.Prelude.{◌≡◌, ◌<◌, IfSome, length};
-ghost use Rattle.mb_channel.specs.Ends.{view_of};
-ghost use Rattle.mb_channel.specs.Homes.{Changes, HoldsHomes, IsReady, view_in};
-ghost use Rattle.mb_channel.specs.Lengths.{AreWaiting, HasCounted, HasLooked, HasSummed, HaveLooked};
-ghost use Rattle.mb_channel.specs.Lengths.{drawn_there, sum_of, taken_there};
+ghost use Rattle.std.specs.Prelude.{◌≡◌, ◌<◌, [], IfSome, Some, length, true};
+ghost use Rattle.mb_channel.specs.Ends.{end_told};
+ghost use Rattle.mb_channel.specs.Kept.{kept_told};
+ghost use Rattle.mb_channel.specs.Homes.{Changes, HoldsHomes, IsReady, unlocked, view_in};
+ghost use Rattle.mb_channel.specs.Lengths.{AreWaiting, HasLooked, HasSummed, HaveLooked};
+ghost use Rattle.mb_channel.specs.Lengths.{chair_told, drawn_there, sum_of, taken_there, told_length};
 
 use crate::channel::TRIES;
 use crate::end::{End, Receiver, Sender};
 use crate::home::{Home, Homes};
 use crate::kept::KeptSender;
 use crate::list::{Chair, List};
+use crate::rule::{GivesLength, Length};
 use mb_segment::pause;
 use std::marker::Brand;
 use std::sync::Wait;
@@ -126,34 +128,42 @@ impl<T: Drop> List<T> {
         homes.waiting()
     }
 
+    /// Gives the lock back, and tells how many values wait in the list. `found` is what the proof that picks that may use.
+    fn give_length<N: Length>(&self, chair: &mut Chair<T>, found: Option<u64>)
+        requires list { chair.old.table_id ≡ self.now.table.shared.table_id }
+        requires held { ((view_in chair.old).live ≡ true) × ((view_in chair.old).holds ≡ true) }
+        requires waiting { HasSummed (view_in chair.old).before N.told chair.old.me.1 }
+        ensures list { (chair.new.table_id ≡ chair.old.table_id) × (chair.new.id ≡ chair.old.id) }
+        ensures told { chair.new.me ≡ (told_length N.told (unlocked (view_in chair.old)), []) }
+    {
+        let _ = found;
+        self.table.shared.store::<GivesLength<N>>(chair, 0, 0);
+    }
+
     /// How many values wait in the segments. It is `None` if the lock is taken, or if others claimed meanwhile.
     pub fn len(&self, chair: &mut Chair<T>) -> Option<u64>
         requires list { chair.old.table_id ≡ self.now.table.shared.table_id }
         requires ready { IsReady chair.old.me }
-        ensures list { (chair.new.table_id ≡ chair.old.table_id) × (chair.new.id ≡ chair.old.id) }
-        ensures same { chair.new.me ≡ chair.old.me }
-        ensures counted { IfSome result (HasCounted (view_in chair.old)) }
+        ensures told { chair.new ≡ chair_told result chair.old }
     {
         if !self.try_lock(chair) {
             return None;
         }
         let found = self.waiting(chair);
-        self.give::<Brand>(chair);
+        self.give_length::<Brand>(chair, found);
         found
     }
 }
 
 impl<T: Drop> End<T> {
     fn try_len(&mut self) -> Option<u64>
-        ensures same { self.new ≡ self.old }
-        ensures counted { IfSome result (HasCounted (view_of self.old)) }
+        ensures told { self.new ≡ end_told result self.old }
     {
         self.list.len(&mut self.chair)
     }
 
     fn len<R: Wait>(&mut self, rt: &R) -> u64
-        ensures same { self.new ≡ self.old }
-        ensures counted { HasCounted (view_of self.old) result }
+        ensures told { self.new ≡ end_told (Some result) self.old }
     {
         let mut tries: u32 = 0;
         for _ in rt.forever() {
@@ -170,18 +180,16 @@ impl<T: Drop> End<T> {
 impl<T: Drop> Sender<T> {
     /// How many values wait: in all segments, the number drawn, less the number claimed, which was the same before and
     /// behind that look. It is `None` if the list's lock is taken, or if others received at each of a few tries: yield,
-    /// and try again. It never waits, and the sender stays as it is.
+    /// and try again. It never waits. The sender is told the number, and stays as it is otherwise.
     pub fn try_len(&mut self) -> Option<u64>
-        ensures same { self.new ≡ self.old }
-        ensures counted { IfSome result (HasCounted (view_of self.old.end)) }
+        ensures told { self.new.end ≡ end_told result self.old.end }
     {
         self.end.try_len()
     }
 
     /// How many values wait. It goes on while others receive, or while one has the list's lock.
     pub fn len<R: Wait>(&mut self, rt: &R) -> u64
-        ensures same { self.new ≡ self.old }
-        ensures counted { HasCounted (view_of self.old.end) result }
+        ensures told { self.new.end ≡ end_told (Some result) self.old.end }
     {
         self.end.len(rt)
     }
@@ -190,16 +198,14 @@ impl<T: Drop> Sender<T> {
 impl<T: Drop> Receiver<T> {
     /// How many values wait, as [`Sender::try_len`].
     pub fn try_len(&mut self) -> Option<u64>
-        ensures same { self.new ≡ self.old }
-        ensures counted { IfSome result (HasCounted (view_of self.old.end)) }
+        ensures told { self.new.end ≡ end_told result self.old.end }
     {
         self.end.try_len()
     }
 
     /// How many values wait, as [`Sender::len`].
     pub fn len<R: Wait>(&mut self, rt: &R) -> u64
-        ensures same { self.new ≡ self.old }
-        ensures counted { HasCounted (view_of self.old.end) result }
+        ensures told { self.new.end ≡ end_told (Some result) self.old.end }
     {
         self.end.len(rt)
     }
@@ -208,8 +214,7 @@ impl<T: Drop> Receiver<T> {
 impl<T: Drop> KeptSender<T> {
     /// How many values wait, as [`Sender::try_len`], whatever the sender owes.
     pub fn try_len(&mut self) -> Option<u64>
-        ensures same { self.new ≡ self.old }
-        ensures counted { IfSome result (HasCounted (view_in self.old.chair)) }
+        ensures told { self.new ≡ kept_told result self.old }
     {
         self.list.len(&mut self.chair)
     }

@@ -153,6 +153,7 @@ impl<T: Drop> Receiver<T> {
         ensures retired { (view_of self.new.end).sends ≡ (view_of self.old.end).sends }
         ensures alone { (view_of self.new.end).alone ≡ (view_of self.old.end).alone || result }
         ensures last { result ≡ true → HasEnded self.new.end }
+        ensures ended { HasEnded sender.end → HasEnded self.new.end }
     {
         let Sender { end } = sender;
         let mut end = end;

@@ -1,17 +1,21 @@
 //! Samples of the list's definitions: what they admit, and what only looks right. The functions compute nothing: their
 //! contracts are the samples.
-ghost use Rattle.std.specs.Prelude.{List, Some, length, ℕ, [], false, true, ◌<◌, ◌++◌, ◌∷◌, ◌≡◌};
+ghost use Rattle.std.specs.Prelude.{List, None, Option, Some, length, ℕ, [], false, true, ◌<◌, ◌++◌, ◌∷◌, ◌≡◌};
+ghost use Rattle.atomic_table.specs.Table.{Step};
 ghost use Rattle.mb_segment.specs.SegmentSamples.{overslept, unused};
 ghost use Rattle.mb_channel.specs.Closing.{AreStates, KnowsEnd, NoneWaits};
 ghost use Rattle.mb_channel.specs.Deeds.{IsUpTo, OneMore, deed};
-ghost use Rattle.mb_channel.specs.Ends.{IsBehind, IsLater, Standing};
-ghost use Rattle.mb_channel.specs.HomeSamples.{adder, given_twice, last_of_two, one_take, one_visit, place, told_none};
+ghost use Rattle.mb_channel.specs.Ends.{IsBehind, IsLater, Standing, end_told, log_of};
+ghost use Rattle.mb_channel.specs.HomeSamples.{adder, given_twice, last_of_two, one_take, one_visit, place, returner, told_none};
 ghost use Rattle.mb_channel.specs.Homes.{Agrees, Fits, FitsEnd, HasIssued, HasTakenBack, IsDone, IsFreed, IsNew, IsOver, IsWhole, MayLeave, Stands};
-ghost use Rattle.mb_channel.specs.Homes.{Made, came_back, first_view, out_of, spent_view};
+ghost use Rattle.mb_channel.specs.Homes.{Made, Sat, came_back, first_view, out_of, spent_view};
 ghost use Rattle.mb_channel.specs.Inside.{known_there};
+ghost use Rattle.mb_channel.specs.Lengths.{AreWaiting, HasSummed, HaveLooked, drawn_there, gives_length, taken_there};
 ghost use Rattle.mb_channel.specs.LifeSamples.{one_got, one_sent, position, two_sent};
+ghost use Rattle.mb_channel.specs.Returned.{NoneReturned, OneReturned};
 ghost use Rattle.mb_channel.specs.Tallies.{GoesOnTo};
 ghost use Rattle.mb_channel.specs.Told.{KeepsOrder};
+ghost use Rattle.mb_channel.specs.Wakes.{wakes_of};
 ghost use Rattle.mb_channel.specs.declared.end.End.{End};
 ghost use Rattle.mb_channel.specs.Types.{Arc, Global, Home, Homes, Knows, Pass, Segment, View};
 
@@ -118,6 +122,17 @@ pub fn sample_places()
     ensures known { OneMore 10 (place 1 4) (place 1 4) [] (deed 1 (position 3 10) ∷ []) → ⊥ }
 {}
 
+/// A value that is given back. Admitted: a further end that sent it alone, to the place up to which the receiver knew, and
+/// that none is given back by an end that did nothing. Refused: a place of which the receiver knew, no further end, and
+/// that none is given back by an end that sent one.
+pub fn sample_returned()
+    ensures next { OneReturned 10 (place 1 3) [] (returner ∷ []) }
+    ensures idle { NoneReturned [] (record returner { sent = [] } ∷ []) }
+    ensures known { OneReturned 10 (place 1 4) [] (returner ∷ []) → ⊥ }
+    ensures lost { OneReturned 10 (place 1 3) (returner ∷ []) (returner ∷ []) → ⊥ }
+    ensures sent { NoneReturned [] (returner ∷ []) → ⊥ }
+{}
+
 /// The place of a call, in the one order. Admitted: the first of two calls in segment 0. Refused: a call in a segment
 /// where nothing was sent.
 pub fn sample_order()
@@ -145,4 +160,31 @@ pub fn sample_behind()
     ensures open_ { KnowsEnd (record (first_view {T = ℕ}) { last = Some 0 }) → ⊥ }
     ensures told { (e : End ℕ) → e.behind ≡ true → IsBehind e }
     ensures untold { (e : End ℕ) → e.behind ≡ false → IsBehind e → ⊥ }
+{}
+
+/// What waits. Admitted: 34 values in a segment and 36 in the next, of which its hub knows no claim. Refused: one value
+/// more. A hub may leave a look out. Refused: a segment that was added beside the looks. The seat that counts has the
+/// list. Refused: one that has it no more.
+pub fn sample_waiting()
+    ensures waiting { (l : Homes ℕ) (h g : Home ℕ) → l.list.items ≡ h ∷ g ∷ []
+        → drawn_there h ≡ 64 → taken_there h ≡ 30 → drawn_there g ≡ 36 → taken_there g ≡ 0
+        → AreWaiting l 70 }
+    ensures more { (l : Homes ℕ) (h : Home ℕ) → l.list.items ≡ h ∷ []
+        → drawn_there h ≡ 64 → taken_there h ≡ 30 → AreWaiting l 35 → ⊥ }
+    ensures looked { (h : Home ℕ) → HaveLooked (h ∷ []) (h ∷ []) }
+    ensures added { (h g : Home ℕ) → HaveLooked (h ∷ []) (h ∷ g ∷ []) → ⊥ }
+    ensures had { (l : Homes ℕ) → l.first ≡ 0 → AreWaiting l 7
+        → HasSummed l.list.items (Some 7) ((0, l) ∷ []) }
+    ensures given { (hs : List (Home ℕ)) → HasSummed hs (Some 7) [] → ⊥ }
+{}
+
+/// An end that was told how many values wait. Its log and its tokens stay. Told nothing, it is as it was. Refused: that it
+/// is so where it was told a number, and that it keeps the lock.
+pub fn sample_lengths()
+    ensures log { (n : ℕ) (e : End ℕ) → log_of (end_told (Some n) e) ≡ log_of e }
+    ensures wakes { (n : ℕ) (e : End ℕ) → wakes_of (end_told (Some n) e) ≡ wakes_of e }
+    ensures nothing { (e : End ℕ) → end_told None e ≡ e }
+    ensures silent { (n : ℕ) (e : End ℕ) → end_told (Some n) e ≡ e → ⊥ }
+    ensures holder { (told : Option ℕ) (s : Step (Homes ℕ)) (v : Sat ℕ)
+        → gives_length told s v 0 v → ⊥ }
 {}

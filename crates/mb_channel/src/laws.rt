@@ -9,9 +9,13 @@ ghost use Rattle.mb_channel.specs.Types.{Home, Homes, Knows};
 ghost use Rattle.mb_segment.specs.Vocabulary.{FindsEmpty, SegmentState};
 ghost use Rattle.mb_channel.specs.Closing.{AreStates, IsClosedOff, IsFinished, ListState, NoneWaits};
 ghost use Rattle.mb_channel.specs.Homes.{AllHomes, At, IsShut, IsWhole, Keeps, Sat, sends, total};
+ghost use Rattle.mb_channel.specs.Inside.{Log};
 ghost use Rattle.mb_channel.specs.Lives.{HaveEnded, HaveLived, all_left, end_in};
+ghost use Rattle.mb_channel.specs.Returned.{OneReturned};
 ghost use Rattle.mb_channel.specs.Segments.{AreLogs, EachKeeps, InTurn, KeepsEnd};
+ghost use Rattle.mb_channel.specs.States.{OnlyReceiversTake, moment_of};
 ghost use Rattle.mb_channel.specs.Tallies.{sees_senders};
+ghost use Rattle.mb_channel.specs.Lengths.{HasSummed, IsKnown, gives_length};
 ghost use Rattle.mb_channel.specs.Deeds.{Deed, IsUpTo, OneMore};
 ghost use Rattle.mb_channel.specs.Told.{AllTell, KeepsOrder, index};
 ghost use Rattle.mb_channel.specs.declared.place.Place.{Place};
@@ -23,6 +27,30 @@ pub fn moments_keep_the_theorem<T>()
     ensures turn { (m : Moment T) → EachKeeps m.segments → InTurn m.segments
         → TakenInTurn (life m) }
 {}
+
+/// Of a state of the list, and of a state of each segment: if only those that may receive in a segment take values there
+/// or sleep, the channel's points hold of this moment. The moment tells what an end was told, and where it is.
+pub fn states_keep_the_theorem<T: Drop>()
+    ensures moment { (c : ListState T) (k : Keeps c) (now : ℕ → SegmentState T)
+        (a : AreStates now k.homes)
+        → OnlyReceiversTake c.views now k.homes → EachMoment (moment_of c k now a) }
+    ensures visited { (c : ListState T) (k : Keeps c) (now : ℕ → SegmentState T)
+        (a : AreStates now k.homes) (id : ℕ) (v : Knows T) (s : Segment T)
+        → get_elem? c.views id ≡ some v → v.takes ≡ true
+        → get_elem? (moment_of c k now a).segments v.at ≡ some s → s.is_visited ≡ true }
+    ensures told { (c : ListState T) (k : Keeps c) (now : ℕ → SegmentState T)
+        (a : AreStates now k.homes) (id : ℕ) (v : Knows T)
+        → get_elem? c.views id ≡ some v → v.takes ≡ true → v.last ≡ Some v.at
+        → (moment_of c k now a).is_told ≡ true }
+    ensures refused { (c : ListState T) (k : Keeps c) (now : ℕ → SegmentState T)
+        (a : AreStates now k.homes) (id : ℕ) (v : Knows T)
+        → get_elem? c.views id ≡ some v → v.shut ≡ true
+        → (moment_of c k now a).is_refused ≡ true }
+{
+    mb_segment::laws::one_taker::<T>();
+    mb_segment::laws::over_is_true::<T>();
+    mb_segment::laws::no_wake_up_is_lost::<T>();
+}
 
 /// Of a whole life: segments that were taken in turn make one channel. Each end did there what it did in the segments.
 /// What was taken is the beginning of what was sent.
@@ -55,10 +83,14 @@ pub fn lives_have_the_logs<T: Drop>()
 {}
 
 /// Of two calls: let one end know up to a place after its call, and another end know as far before its own. Then the place
-/// of the first call comes before that of the second in the one order.
+/// of the first call comes before that of the second in the one order. So too if the other gives a value back.
 pub fn told_comes_later<T: Drop>()
     ensures later { (x y : T) (k l m n : Place) (bs cs ds es : List (Deed T)) (hs : List (Home T))
         (a : OneMore x k l bs cs) (b : OneMore y m n ds es) → IsUpTo l m
+        → KeepsOrder hs (record { place = a.place; value = x })
+        → index hs a.place < index hs b.place }
+    ensures returned { (x y : T) (k l m : Place) (bs cs : List (Deed T)) (ks ls : List (Log T))
+        (hs : List (Home T)) (a : OneMore x k l bs cs) (b : OneReturned y m ks ls) → IsUpTo l m
         → KeepsOrder hs (record { place = a.place; value = x })
         → index hs a.place < index hs b.place }
 {}
@@ -71,6 +103,18 @@ pub fn none_is_true<T: Drop>()
         → AllHomes IsFinished k.homes }
 {
     mb_segment::laws::over_is_true::<T>();
+}
+
+/// Of the moment at which an end is told that n values wait: it gives the channel's list back. Since it found that, hubs
+/// looked, and nothing else was done. What they know to be drawn, less what they know to be claimed, is n. And each hub's
+/// knowledge is true, at any moment.
+pub fn length_is_true<T: Drop>()
+    ensures list { (c : ListState T) (k : Keeps c) (id n r : ℕ) (s : Step (Homes T)) (v w : Sat T)
+        → get_elem? c.views id ≡ some v.0 → gives_length (Some n) s v r w
+        → HasSummed k.homes (Some n) v.1 }
+    ensures known { (hs : List (Home T)) → AllHomes IsKnown hs }
+{
+    mb_segment::laws::knowledge_is_true::<T>();
 }
 
 /// Of the moment at which a pass counts that it found nothing, in the segment where a receiver is: nothing waits in any

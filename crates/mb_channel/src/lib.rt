@@ -9,6 +9,7 @@
 //!   sleep. Whoever owes a wake is [`Owing`] or [`Leaving`], and whoever sleeps is [`Asleep`].
 //! - [`Sender::known`] and [`Receiver::known`] say how far an end knows. [`Sender::learn`] and [`Receiver::learn`] tell
 //!   that to another end. If they answer `true`, its later calls stand behind that [`Place`].
+//! - [`Receiver::give_back`] gives a value back to the end of the one order.
 //! - [`Receiver::give_sender`] and [`Receiver::give_receiver`] take an end back. [`Receiver::end`] ends the channel by
 //!   its last one.
 //!
@@ -17,15 +18,20 @@
 
 mod answers;
 mod attempt;
+mod begun;
 mod busy;
 mod channel;
+mod claiming;
 mod counting;
 mod cutting;
 mod debtor;
 mod departing;
+mod drawing;
 mod end;
 mod ending;
 mod giving;
+pub mod half_samples;
+mod halfway;
 mod heard;
 mod held;
 mod home;
@@ -43,9 +49,11 @@ mod polls;
 mod posting;
 mod receives;
 mod rest;
+mod returning;
 mod rule;
 pub mod samples;
 mod sends;
+pub mod state_samples;
 mod stuck;
 mod telling;
 mod tried;
@@ -55,7 +63,9 @@ mod visits;
 
 pub use answers::{Came, Retired};
 pub use channel::Refused;
+pub use claiming::{Claimed, Claiming};
 pub use departing::{Cutter, Departing};
+pub use drawing::{Drawing, Drawn};
 pub use end::{Receiver, Sender};
 pub use held::{Held, Stored};
 pub use home::{Home, Homes, Shared};

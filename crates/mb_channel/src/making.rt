@@ -1,12 +1,15 @@
 //! Ends are made from one another.
-ghost use Rattle.std.specs.Prelude.{◌≡◌, ◌≢◌, ◌++◌, ◌∷◌, ◌+◌, ◌-◌, ◌<◌, ◌≤◌, false, true, IfNone, IfOk, IfSome, None};
+ghost use Rattle.std.specs.Prelude.{◌≡◌, ◌≢◌, ◌++◌, ◌∷◌, ◌+◌, ◌-◌, ◌<◌, ◌≤◌, ◌⊎◌, false, true};
+ghost use Rattle.std.specs.Prelude.{IfErr, IfNone, IfOk, IfSome, None, OnErr, OnOk};
 ghost use Rattle.std.specs.Arc.{arc_value};
-ghost use Rattle.mb_channel.specs.Tallies.{hires_receiver, hires_sender};
+ghost use Rattle.mb_channel.specs.Answers.{IfClosed};
+ghost use Rattle.mb_channel.specs.Tallies.{hires_receiver, hires_sender, saw_none};
 ghost use Rattle.mb_channel.specs.Closing.{KnowsEnd};
 ghost use Rattle.mb_channel.specs.Homes.{IsFirst, IsReady, view_in};
 ghost use Rattle.mb_channel.specs.Ends.{AreOfOneChannel, IsBehind, IsFresh, IsLater, IsSame, StaysTold};
 ghost use Rattle.mb_channel.specs.Ends.{given_to, got_by, log_of, sent_by, stand_of, view_of};
 
+use crate::channel::Refused;
 use crate::end::{End, Receiver, Sender};
 use crate::list::{Chair, List, SharedList};
 use crate::rule::{AsReceiver, AsSender, Side};
@@ -118,26 +121,52 @@ impl<T: Drop> End<T> {
         end_at(list, chair, at, self.behind)
     }
 
-    /// Counts for one sender more. It is `false` if there are so many that they cannot be counted.
-    fn hire_sender(&mut self) -> bool
-        requires sender { 0 < (view_of self.old).sends }
+    /// Counts for one sender more. [`Refused::Closed`] is told if no sender is left, which the end then knows.
+    fn hire_sender(&mut self) -> Result<(), Refused>
         ensures chair { (self.new.chair.table_id ≡ self.old.chair.table_id)
             × (self.new.inside ≡ self.old.inside) × (self.new.behind ≡ self.old.behind) }
-        ensures view { result ≡ true → view_of self.new ≡ hires_sender (view_of self.old) }
-        ensures same { result ≡ false → view_of self.new ≡ view_of self.old }
+        ensures view { OnOk result ((view_of self.new ≡ hires_sender (view_of self.old))
+            × ((view_of self.old).alone ≡ false)) }
+        ensures same { OnErr result ((view_of self.new ≡ view_of self.old)
+            ⊎ (view_of self.new ≡ saw_none (view_of self.old))) }
+        ensures none { IfErr result (λ why.
+            IfClosed why (view_of self.new ≡ saw_none (view_of self.old))) }
     {
         let mut seen: u64 = 1;
         for _ in 0..u64::MAX {
             if seen >= u64::MAX {
-                return false;
+                return Err(Refused::Crowded);
             }
             let found = self.list.hire_sender(&mut self.chair, seen, seen + 1);
             if found == seen {
-                return true;
+                return Ok(());
+            }
+            if found == 0 {
+                return Err(Refused::Closed);
             }
             seen = found;
         }
-        false
+        Err(Refused::Crowded)
+    }
+
+    /// A new sender, which begins where this end is. It is refused if so many ends were made that they cannot be counted,
+    /// or, by [`Refused::Closed`], if no sender is left, which the end then knows.
+    pub(crate) fn new_sender(&mut self) -> Result<Sender<T>, Refused>
+        ensures end { IsSame self.old self.new }
+        ensures takes { (view_of self.new).takes ≡ (view_of self.old).takes }
+        ensures sent { sent_by self.new ≡ sent_by self.old }
+        ensures got { got_by self.new ≡ got_by self.old }
+        ensures behind { IsBehind self.old
+            → IsBehind self.new × IfOk result (λ s. IsBehind s.end) }
+        ensures new { IfOk result (λ s. AreOfOneChannel self.old s.end × IsFresh s.end) }
+        ensures none { IfErr result (λ why. IfClosed why ((view_of self.new).alone ≡ true)) }
+    {
+        let Some(list) = self.count_one() else {
+            return Err(Refused::Crowded);
+        };
+        self.hire_sender()?;
+        let end = self.split::<AsSender>(list);
+        Ok(Sender { end })
     }
 
     /// Counts for one receiver more. It is `false` if there are so many that they cannot be counted.
@@ -198,12 +227,7 @@ impl<T: Drop> Sender<T> {
         ensures given { given_to self.new.end ≡ given_to self.old.end }
         ensures new { IfSome result (λ s. AreOfOneChannel self.old.end s.end × IsFresh s.end) }
     {
-        let list = self.end.count_one()?;
-        if !self.end.hire_sender() {
-            return None;
-        }
-        let end = self.end.split::<AsSender>(list);
-        Some(Sender { end })
+        self.end.new_sender().ok()
     }
 }
 

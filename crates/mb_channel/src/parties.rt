@@ -12,16 +12,19 @@ use crate::rule::{
 };
 
 impl<T: Drop> List<T> {
-    /// A sender counts for one sender more, if there are still as many as were seen.
+    /// An end counts for one sender more, if there are still as many as were seen. If none is left, it knows that.
     pub fn hire_sender(&self, chair: &mut Chair<T>, seen: u64, new: u64) -> u64
         requires list { chair.old.table_id ≡ self.now.table.shared.table_id }
         requires live { (view_in chair.old).live ≡ true }
-        requires sender { 0 < (view_in chair.old).sends }
+        requires seen { 0 < seen }
         requires new { new ≡ seen + 1 }
         ensures list { (chair.new.table_id ≡ chair.old.table_id) × (chair.new.id ≡ chair.old.id) }
         ensures held { chair.new.me.1 ≡ chair.old.me.1 }
-        ensures done { result ≡ seen → view_in chair.new ≡ hires_sender (view_in chair.old) }
-        ensures missed { result ≢ seen → view_in chair.new ≡ view_in chair.old }
+        ensures done { result ≡ seen → (view_in chair.new ≡ hires_sender (view_in chair.old))
+            × ((view_in chair.old).alone ≡ false) }
+        ensures missed { result ≢ seen → result ≢ 0 → view_in chair.new ≡ view_in chair.old }
+        ensures none { result ≡ 0 → (view_in chair.new ≡ saw_none (view_in chair.old))
+            × ((view_in chair.old).sends ≡ 0) }
     {
         self.table
             .shared

@@ -11,6 +11,20 @@ pub struct Place {
 }
 
 impl Place {
+    /// How many segments lie before its own.
+    pub fn segment(self) -> usize
+        ensures { result ≡ self.segment }
+    {
+        self.segment
+    }
+
+    /// How many positions of its segment lie before it.
+    pub fn number(self) -> u64
+        ensures { result ≡ self.number }
+    {
+        self.number
+    }
+
     /// Whether it is this place, or lies before it.
     pub(crate) fn is_up_to(self, other: Place) -> bool
         ensures up { result ≡ true → IsUpTo self other }

@@ -14,7 +14,9 @@ pub enum Posted<T> {
     Sent,
     /// The value is sent, and receivers may have to be woken.
     Owes,
-    /// The value is not sent. Try again by a call that can go on to the next segment.
+    /// The value is not sent, since another sender was first. Try again after some microseconds.
+    Again(T),
+    /// The value is not sent. Pay what is owed, and try again by a call that can go on to the next segment.
     Back(T),
 }
 
@@ -28,7 +30,7 @@ impl<T: Drop> Busy<T> {
     {
         let at = match self.segment.draw(&mut self.pass, &value) {
             Draw::At(at) => at,
-            Draw::Again => return Posted::Back(value),
+            Draw::Again => return Posted::Again(value),
             Draw::Full => return Posted::Back(value),
             Draw::Closed => return Posted::Back(value),
         };

@@ -58,6 +58,31 @@ impl<T: Drop, F: Change<T>> Play<Homes<T>, Knows<T>> for GivesLock<F> {
     ghost then = { gives_lock F.of };
 }
 
+/// How many values are told to wait, if it is told. A proof picks it.
+pub trait Length {
+    ghost use Rattle.std.specs.Prelude.{Option, ℕ};
+
+    ghost told: { Option ℕ };
+}
+
+// Without a pick it is not told.
+impl Length for Brand {
+    ghost use Rattle.std.specs.Prelude.{None};
+
+    ghost told = { None };
+}
+
+/// Gives the lock back, and may tell how many values wait.
+pub struct GivesLength<N> {
+    of: PhantomData<N>,
+}
+
+impl<T: Drop, N: Length> Play<Homes<T>, Knows<T>> for GivesLength<N> {
+    ghost use Rattle.mb_channel.specs.Lengths.{gives_length};
+
+    ghost then = { gives_length N.told };
+}
+
 pub struct GetsNumber;
 
 impl<T: Drop> Play<Homes<T>, Knows<T>> for GetsNumber {
@@ -78,10 +103,9 @@ impl<T: Drop> Play<Homes<T>, Knows<T>> for Counts {
 pub struct HiresSender;
 
 impl<T: Drop> Play<Homes<T>, Knows<T>> for HiresSender {
-    ghost use Rattle.mb_channel.specs.Homes.{sends};
-    ghost use Rattle.mb_channel.specs.Tallies.{counting, hires_sender};
+    ghost use Rattle.mb_channel.specs.Tallies.{hiring};
 
-    ghost then = { counting sends (λ _. hires_sender) };
+    ghost then = { hiring };
 }
 
 pub struct HiresReceiver;

@@ -103,7 +103,7 @@ impl<T: Drop> End<T> {
 
     /// Learns of all sends before the place, or, if `takes`, of all receives. It is `false` if the end does not know of
     /// them all.
-    fn learn(&mut self, place: Place, takes: bool) -> bool
+    pub(crate) fn learn(&mut self, place: Place, takes: bool) -> bool
         requires side { takes ≡ true → (view_of self.old).takes ≡ true }
         ensures still { NoMore (stand_of self.old) (stand_of self.new) }
         ensures takes { takes ≡ true → (view_of self.new).takes ≡ true }

@@ -53,4 +53,6 @@ pub struct Knows<T: Drop> {
     /// How often it looked as one that may receive and has the lock, and found itself behind the last segment while a
     /// sender was left. Nothing waited then.
     pub found: u64,
+    /// The lengths that it was told, the newest first: how many values waited, as far as the hubs knew.
+    pub lengths: LinkedList<u64>,
 }

@@ -14,7 +14,8 @@ use std::marker::Brand;
 
 impl<T: Drop, A: Allocator + Drop> Segment<T, A> {
     /// Draws the next position for this value, which counts as sent from then on. The pass has to mark the position,
-    /// and then owes a wake, or for the last position a wake to all. Three accesses at most.
+    /// and then owes a wake, or for the last position a wake to all. Two accesses at most. If another pass was first, let
+    /// it go on for some microseconds before the next try: two that try all the time cost each other more than that.
     pub fn draw(&self, pass: &mut Pass<T>, value: &T) -> Draw
         requires segment { pass.old.seat.table_id ≡ self.now.table.shared.table_id }
         requires free { IsFree pass.old }
@@ -37,15 +38,11 @@ impl<T: Drop, A: Allocator + Drop> Segment<T, A> {
         if seen >= self.size {
             return Draw::Full;
         }
-        let found = self.draw_from(pass, seen, value);
-        if found == seen {
-            return Draw::At(seen);
+        if self.draw_from(pass, seen, value) == seen {
+            Draw::At(seen)
+        } else {
+            Draw::Again
         }
-        // Another pass was first. The exchange found the number drawn now, so a second try needs no look.
-        if found < self.size && self.draw_from(pass, found, value) == found {
-            return Draw::At(found);
-        }
-        Draw::Again
     }
 
     /// Draws the position, if it is still the next one. One access.

@@ -3,29 +3,14 @@ ghost use Rattle.std.specs.Prelude.{[], ℕ, ◌<◌, ◌≡◌, ◌≤◌};
 ghost use Rattle.mb_segment.specs.{IsFree, IsStill, MayTake, OfFound, SawAllTaken, bare, calm, found_empty, got_at};
 ghost use Rattle.mb_segment.specs.{held_by, marked_to, told, view_in};
 
+use crate::pauses::pause;
 use crate::segment::{Pass, Segment};
 use crate::waiting::Found;
 use std::alloc::Allocator;
-use std::hint::spin_loop;
 use std::sync::Wait;
-use std::thread::yield_now;
 
 /// How many looks have a pause behind them.
 const LOOKS: u32 = 10;
-
-/// How many pauses spin.
-const SPINS: u32 = 6;
-
-/// A pause between two tries, of which there were so many before: a spin that is twice as long each time, then a yield.
-pub fn pause(tries: u32) {
-    if tries >= SPINS {
-        yield_now();
-        return;
-    }
-    for _ in 0..1u32 << tries {
-        spin_loop();
-    }
-}
 
 impl<T: Drop, A: Allocator + Drop> Segment<T, A> {
     /// Looks a few times before it answers that no value is there, since a sleep and its wake cost more than that.

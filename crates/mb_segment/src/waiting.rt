@@ -5,6 +5,7 @@ ghost use Rattle.mb_segment.specs.{SawAllTaken, bare, calm, did_cut, done, ended
 ghost use Rattle.mb_segment.specs.{leaves, looked, marked_to, sees_cut, sent_at, takes_token, told, took, value_of, view_in, wakes_up, with_duty};
 
 use crate::answers::{Cut, Draw, Leave, Look, Rest, Wake};
+use crate::pauses::stand_back;
 use crate::segment::{Pass, Segment};
 use std::alloc::Allocator;
 use std::sync::Wait;
@@ -108,7 +109,7 @@ impl<T: Drop, A: Allocator + Drop> Segment<T, A> {
                 }
                 Draw::Full => return Err(NotSent::Full(value)),
                 Draw::Closed => return Err(NotSent::Closed(value)),
-                Draw::Again => {}
+                Draw::Again => stand_back(),
             }
         }
         unreachable!()
@@ -159,6 +160,7 @@ impl<T: Drop, A: Allocator + Drop> Segment<T, A> {
                     if self.claim(pass, at) {
                         return Found::Value(self.read(pass, at));
                     }
+                    stand_back();
                 }
                 Look::Yield => yield_now(),
                 Look::Empty => return Found::Empty,

@@ -9,6 +9,10 @@ mod closing;
 #[cfg(test)]
 mod crowds;
 #[cfg(test)]
+mod halves;
+#[cfg(test)]
+mod returning;
+#[cfg(test)]
 mod rings;
 #[cfg(test)]
 mod segments;

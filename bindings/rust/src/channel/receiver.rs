@@ -5,7 +5,8 @@ use super::future::{JobFuture, RecvFuture};
 use super::iter::{Drain, Iter, TryIter};
 use super::job::Job;
 use super::shared::Shared;
-use super::store::{Chair, Look, Ticket};
+use super::store::{At, Chair, Look, Taking, Ticket};
+use crate::ffi::Outlet;
 use std::borrow::Cow;
 use std::panic::{RefUnwindSafe, UnwindSafe};
 use std::sync::Arc;
@@ -50,7 +51,31 @@ impl<T> Receiver<T> {
 
     #[inline]
     pub(super) fn take(&self, ticket: Option<&Ticket>) -> Look<T> {
-        self.shared.take(&self.chair, self.number, ticket)
+        let taken = self.take_at_once();
+        taken.map_or_else(|taking| self.take_further(taking, ticket), Look::Took)
+    }
+
+    /// Takes a value if there is a seat, and one call of the archive takes it.
+    #[inline]
+    fn take_at_once(&self) -> Result<T, Option<Taking<'_, T>>> {
+        let seat = self.chair.get().ok_or(None)?;
+        let (value, more) = seat.take().map_err(Some)?;
+        if let Some(at) = more {
+            self.go_on(at);
+        }
+        Ok(value)
+    }
+
+    #[inline(never)]
+    fn go_on(&self, at: At<'_, Outlet<T>>) {
+        let Shared { store, full, .. } = &*self.shared;
+        store.row().go_on(at, self.number, full);
+    }
+
+    #[inline]
+    fn take_further(&self, taking: Option<Taking<'_, T>>, ticket: Option<&Ticket>) -> Look<T> {
+        let (shared, number) = (&self.shared, self.number);
+        shared.take(taking, &self.chair, number, ticket)
     }
 
     pub(super) fn take_job(&self, ticket: Option<&Ticket>) -> Look<Job<T>> {
@@ -259,7 +284,17 @@ impl<T> Receiver<T> {
 
     #[inline]
     fn recv_until(&self, until: Option<Instant>) -> Result<T, RecvTimeoutError> {
-        match self.take(None) {
+        let taken = self.take_at_once();
+        taken.or_else(|taking| self.recv_further(taking, until))
+    }
+
+    #[inline(never)]
+    fn recv_further(
+        &self,
+        taking: Option<Taking<'_, T>>,
+        until: Option<Instant>,
+    ) -> Result<T, RecvTimeoutError> {
+        match self.take_further(taking, None) {
             Look::Took(value) => Ok(value),
             _ => self.wait(until, Receiver::take),
         }

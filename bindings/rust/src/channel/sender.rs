@@ -3,7 +3,7 @@ use super::ends::ends;
 use super::errors::{SendError, SendTimeoutError, TrySendError, written};
 use super::future::SendFuture;
 use super::shared::Shared;
-use super::store::{Refused, Stand};
+use super::store::{Desk, Refused, Sending, Stand};
 use std::borrow::Cow;
 use std::panic::{RefUnwindSafe, UnwindSafe};
 use std::sync::Arc;
@@ -164,14 +164,26 @@ impl<T> Sender<T> {
 
     #[inline]
     fn send_until(&self, value: T, until: Option<Instant>) -> Result<(), SendTimeoutError<T>> {
-        let sent = match self.put(value) {
-            Err(Refused::Full(value)) => self.wait(value, until),
-            sent => sent,
+        let sent = match self.stand.desk() {
+            Some(desk) => match self.put_at(desk, value) {
+                Ok(()) => return Ok(()),
+                Err(sending) => self.put_further(sending),
+            },
+            None => self.send_without(value, until),
         };
         sent.map_err(|why| match why {
             Refused::Closed(value) => SendTimeoutError::Disconnected(value),
             Refused::Full(value) | Refused::NoMemory(value) => SendTimeoutError::Timeout(value),
         })
+    }
+
+    /// Sends a value of a sender that has no desk.
+    #[inline(never)]
+    fn send_without(&self, value: T, until: Option<Instant>) -> Result<(), Refused<T>> {
+        match self.put_without(value) {
+            Err(Refused::Full(value)) => self.wait(value, until),
+            sent => sent,
+        }
     }
 
     /// Waits for room, or for a receiver.
@@ -190,6 +202,33 @@ impl<T> Sender<T> {
 
     #[inline]
     pub(super) fn put(&self, value: T) -> Result<(), Refused<T>> {
+        match self.stand.desk() {
+            Some(desk) => self
+                .put_at(desk, value)
+                .or_else(|sending| self.put_further(sending)),
+            None => self.put_without(value),
+        }
+    }
+
+    /// Puts a value from the desk, if one call of the archive does that, and wakes a receiver.
+    #[inline]
+    fn put_at<'a>(&self, desk: &'a Desk<T>, value: T) -> Result<(), Sending<'a, T>> {
+        desk.send(value)?;
+        self.shared.empty.wake_one();
+        Ok(())
+    }
+
+    /// Goes on with that.
+    #[cold]
+    #[inline(never)]
+    fn put_further(&self, sending: Sending<'_, T>) -> Result<(), Refused<T>> {
+        let Shared { store, empty, .. } = &*self.shared;
+        sending.go_on().map_err(|why| store.row().refusal(why))?;
+        empty.wake_one();
+        Ok(())
+    }
+
+    fn put_without(&self, value: T) -> Result<(), Refused<T>> {
         self.shared.put(Some(&self.stand), value, self.number)
     }
 }

@@ -1,5 +1,5 @@
 //! What all ends of a channel share.
-use super::store::{Chair, Look, Meeting, Plan, Refused, Stand, State, Store, Ticket};
+use super::store::{Chair, Look, Meeting, Plan, Refused, Stand, State, Store, Taking, Ticket};
 use super::system::{Line, Waiters};
 use std::sync::atomic::{AtomicU64, AtomicUsize, Ordering::SeqCst};
 
@@ -125,7 +125,7 @@ impl<T> Shared<T> {
         }
     }
 
-    /// Puts a value, and wakes a receiver.
+    /// Puts a value, of a sender that has no desk or of a job, and wakes a receiver.
     #[inline]
     pub(super) fn put(
         &self,
@@ -144,23 +144,29 @@ impl<T> Shared<T> {
     }
 
     /// Takes a value, and wakes a sender that waits for room.
-    #[allow(clippy::inline_always, reason = "a call costs a tenth of a receive")]
-    #[inline(always)]
+    #[inline]
     fn look(&self, chair: &Chair<T>, who: u64, ticket: Option<&Ticket>) -> Look<T> {
-        let look = self.store.take(chair, who, ticket);
-        if let Look::Took(_) = look {
-            self.full.wake_one();
-            if ticket.is_some() && !self.has_senders() {
-                self.wake_receivers(); // (perhaps nothing is left now)
-            }
+        let look = self.store.take(chair, who, ticket, &self.full);
+        if matches!(look, Look::Took(_)) && ticket.is_some() && !self.has_senders() {
+            self.wake_receivers(); // (perhaps nothing is left now)
         }
         look
     }
 
-    /// Takes a value, or finds that there is none. It may be that nothing comes.
+    /// Takes a value, or finds that there is none. It may be that nothing comes. A receiver that has a seat began there.
     #[inline]
-    pub(super) fn take(&self, chair: &Chair<T>, who: u64, ticket: Option<&Ticket>) -> Look<T> {
-        match self.look(chair, who, ticket) {
+    pub(super) fn take(
+        &self,
+        taking: Option<Taking<'_, T>>,
+        chair: &Chair<T>,
+        who: u64,
+        ticket: Option<&Ticket>,
+    ) -> Look<T> {
+        let look = match taking {
+            Some(taking) => self.store.row().take_further(taking, who, &self.full),
+            None => self.look(chair, who, ticket),
+        };
+        match look {
             Look::Nothing => self.look_again(chair, who, ticket),
             look => look,
         }

@@ -17,10 +17,11 @@ impl System for Std {
     type Lock<T> = Mutex<T>;
     type Thread = Thread;
 
-    const LOOKS: u32 = 10;
+    const LOOKS: u32 = 11;
 
     fn pause(look: u32) {
-        if look < 6 {
+        // (with less, threads that find nothing take the lines of memory from those that work)
+        if look < 8 {
             (0..1 << look).for_each(|_| hint::spin_loop());
         } else {
             thread::yield_now();

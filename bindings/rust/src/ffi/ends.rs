@@ -99,16 +99,16 @@ impl Drop for End {
     }
 }
 
-/// What a thread does after so many tries that others were first at: some microseconds, and now and then a yield. With less,
-/// threads that wait take the lines of memory from those that work. With more yields, a receiver that is many segments
-/// behind would come no nearer: it goes on by a few of them at a time.
+/// What a thread does after so many tries that others were first at: some microseconds, and now and then a yield. The one that
+/// was first then works alone, which is worth more than the time: two that try all the time take the lines of memory from each
+/// other. With more yields, a receiver that is many segments behind would come no nearer: it goes on by a few of them at a time.
 pub(super) fn pause(turn: u32) {
     if turn % 16 == 15 {
         return thread::yield_now();
     }
     // (a `spin_loop` takes from 4 to 40 nanoseconds, by the processor)
     let mut spins = 0;
-    while hint::black_box(spins) < 1024 << turn.min(2) {
+    while hint::black_box(spins) < 4096 << turn.min(2) {
         spins += 1;
     }
 }
@@ -117,6 +117,8 @@ pub(super) fn pause(turn: u32) {
 /// producer.
 pub(crate) struct Inlet<T> {
     end: End,
+    /// What its last call left to do. (Each call writes it.)
+    wake: Wake,
     is_signed: bool,
     /// For values that do not fit into a word.
     tray: Option<Tray<T>>,
@@ -129,6 +131,21 @@ pub(crate) struct Outlet<T> {
     is_signed: bool,
     values: PhantomData<Cell<T>>,
 }
+
+/// A send that is not done yet.
+pub(crate) struct Begun<T>(Stuck<T>);
+
+enum Stuck<T> {
+    /// There is no memory for a tray.
+    NoMemory(T),
+    /// A call for the word of the value returned this code, and may have left something to do.
+    Called(Word, u32),
+}
+
+/// A take that took nothing so far: the code of its call, which is not [`TOOK`](calls::TOOK). It is [`DONE`](calls::DONE) if
+/// there was no call, as by default.
+#[derive(Clone, Copy, Default)]
+pub(crate) struct Looked(u32);
 
 /// Why a value was not sent. It is in it.
 pub(crate) enum Unsent<T> {
@@ -157,6 +174,7 @@ pub(crate) fn ends<T>(is_signed: bool) -> Option<(Inlet<T>, Outlet<T>)> {
     let values = PhantomData;
     let inlet = Inlet {
         end: sender,
+        wake: Wake::default(),
         is_signed,
         tray: None,
         values,
@@ -174,22 +192,38 @@ impl<T> Inlet<T> {
     pub(crate) fn another(&mut self) -> Option<Inlet<T>> {
         Some(Inlet {
             end: self.end.another()?,
+            wake: Wake::default(),
             tray: None,
             ..*self
         })
     }
 
-    /// Sends a value, of the sender with this number.
+    /// Sends a value, if one call does that. The channel is not signed.
     #[inline]
-    pub(crate) fn send(&mut self, value: T, who: u64) -> Result<(), Unsent<T>> {
-        if self.is_signed {
-            return self.send_signed(value, who);
+    pub(crate) fn send(&mut self, value: T) -> Result<(), Begun<T>> {
+        assert!(!self.is_signed);
+        let word = self.word(value);
+        let word = word.map_err(|value| Begun(Stuck::NoMemory(value)))?;
+        let code = self.call(word);
+        // (it is done, and nothing is owed)
+        if code | self.wake.owes == calls::DONE {
+            return Ok(());
         }
-        let word = self.word(value).map_err(Unsent::NoMemory)?;
-        self.send_word(word).map_err(|code| {
-            // SAFETY: ownership. The word was not sent, and `word` made it of a `T`.
-            unsent(code, unsafe { value_of(word) })
-        })
+        Err(Begun(Stuck::Called(word, code)))
+    }
+
+    /// Goes on with a send that this inlet began.
+    pub(crate) fn send_further(&mut self, begun: Begun<T>) -> Result<(), Unsent<T>> {
+        match begun.0 {
+            Stuck::NoMemory(value) => Err(Unsent::NoMemory(value)),
+            Stuck::Called(word, code) => {
+                assert!(!self.is_signed);
+                self.finish(word, code).map_err(|code| {
+                    // SAFETY: ownership. The word was not sent, and `word` made it of a `T`.
+                    unsent(code, unsafe { value_of(word) })
+                })
+            }
+        }
     }
 
     /// The word of a value: the value itself, or the address of its slot, if there is memory for that.
@@ -207,42 +241,34 @@ impl<T> Inlet<T> {
         }
     }
 
-    #[cold]
-    #[inline(never)]
-    fn send_signed(&mut self, value: T, who: u64) -> Result<(), Unsent<T>> {
+    /// Sends a value of the sender with this number. The channel is signed.
+    pub(crate) fn send_signed(&mut self, value: T, who: u64) -> Result<(), Unsent<T>> {
+        assert!(self.is_signed);
         let word = Word::try_pack((value, who)).map_err(|(value, _)| Unsent::NoMemory(value))?;
-        self.send_word(word).map_err(|code| {
+        let code = self.call(word);
+        self.finish(word, code).map_err(|code| {
             // SAFETY: ownership. The word was not sent, and is that of a value with a number.
             let (value, _) = unsafe { word.unpack::<(T, u64)>() };
             unsent(code, value)
         })
     }
 
-    /// Sends a word, or returns the code that says why not.
     #[inline]
-    fn send_word(&mut self, word: Word) -> Result<(), u32> {
-        let mut wake = Wake::default();
+    fn call(&mut self, word: Word) -> u32 {
         // SAFETY: the rules of calls.
-        match unsafe { hz_channel_send(&mut self.end, word, &mut wake) } {
-            calls::DONE if wake.owes == 0 => Ok(()),
-            code => self.send_further(word, code, wake),
-        }
+        unsafe { hz_channel_send(&mut self.end, word, &mut self.wake) }
     }
 
-    /// What follows a call that did not just send the word.
-    #[cold]
-    #[inline(never)]
-    fn send_further(&mut self, word: Word, mut code: u32, mut wake: Wake) -> Result<(), u32> {
+    /// After such a call, sends the word, or returns the code that says why not.
+    fn finish(&mut self, word: Word, mut code: u32) -> Result<(), u32> {
         for turn in 0.. {
-            self.end.settle(wake);
+            self.end.settle(self.wake);
             match code {
                 calls::AGAIN => pause(turn),
                 calls::DONE => break,
                 code => return Err(code),
             }
-            wake = Wake::default();
-            // SAFETY: the rules of calls.
-            code = unsafe { hz_channel_send(&mut self.end, word, &mut wake) };
+            code = self.call(word);
         }
         Ok(())
     }
@@ -287,29 +313,35 @@ impl<T> Outlet<T> {
         })
     }
 
-    /// Takes the next value that nobody else takes, with the number of its sender if the channel is signed. A value that is
-    /// just being sent or taken may hold it up.
+    /// Takes the next value that nobody else takes, if one call does that, and the channel is not signed.
     #[inline]
-    pub(crate) fn take(&mut self) -> Result<(T, u64), Untaken> {
-        let mut word = Word::EMPTY;
-        // SAFETY: the rules of calls.
-        let code = unsafe { hz_channel_try_receive(&mut self.end, &mut word) };
-        if code != calls::TOOK {
-            word = self.take_further(code)?;
-        }
+    pub(crate) fn take(&mut self) -> Result<T, Looked> {
         if self.is_signed {
-            // SAFETY: ownership. An inlet of this channel made the word of a value with a number, and this outlet alone got it.
-            return Ok(unsafe { word.unpack() });
+            return Err(Looked::default());
+        }
+        let mut word = Word::EMPTY;
+        let code = self.call(&mut word);
+        if code != calls::TOOK {
+            return Err(Looked(code));
         }
         // SAFETY: ownership. An inlet of this channel made the word of a `T`, and this outlet alone got it, now.
-        Ok((unsafe { value_of(word) }, 0))
+        Ok(unsafe { value_of(word) })
     }
 
-    /// What follows a call that did not take a value at once.
-    #[cold]
-    #[inline(never)]
-    fn take_further(&mut self, mut code: u32) -> Result<Word, Untaken> {
+    #[inline]
+    fn call(&mut self, word: &mut Word) -> u32 {
+        // SAFETY: the rules of calls.
+        unsafe { hz_channel_try_receive(&mut self.end, word) }
+    }
+
+    /// Goes on with a take. The value comes with the number of its sender if the channel is signed. A value that is just being
+    /// sent or taken may hold this up.
+    pub(crate) fn take_further(&mut self, looked: Looked) -> Result<(T, u64), Untaken> {
         let mut word = Word::EMPTY;
+        let mut code = match looked {
+            Looked(calls::DONE) => self.call(&mut word),
+            Looked(code) => code,
+        };
         for turn in 0.. {
             match code {
                 calls::TOOK => break,
@@ -318,9 +350,13 @@ impl<T> Outlet<T> {
                 calls::AGAIN => pause(turn),
                 code => excluded("hz_channel_try_receive", code),
             }
-            // SAFETY: the rules of calls.
-            code = unsafe { hz_channel_try_receive(&mut self.end, &mut word) };
+            code = self.call(&mut word);
         }
-        Ok(word)
+        if self.is_signed {
+            // SAFETY: ownership. An inlet of this channel made the word of a value with a number, and this outlet alone got it.
+            return Ok(unsafe { word.unpack() });
+        }
+        // SAFETY: ownership. An inlet of this channel made the word of a `T`, and this outlet alone got it, now.
+        Ok((unsafe { value_of(word) }, 0))
     }
 }

@@ -6,11 +6,12 @@ use super::ends::pause;
 use std::cell::UnsafeCell;
 use std::ops::{Deref, DerefMut};
 use std::panic::{RefUnwindSafe, UnwindSafe};
-use std::sync::atomic::AtomicBool;
+use std::sync::atomic::AtomicU32;
 use std::sync::atomic::Ordering::{Acquire, Relaxed, Release};
 
 pub(crate) struct Latch<T> {
-    is_taken: AtomicBool,
+    /// 1 while it is taken.
+    taken: AtomicU32,
     value: UnsafeCell<T>,
 }
 
@@ -30,7 +31,7 @@ unsafe impl<T: Sync> Sync for Held<'_, T> {}
 impl<T> Latch<T> {
     pub(crate) fn new(value: T) -> Latch<T> {
         Latch {
-            is_taken: AtomicBool::new(false),
+            taken: AtomicU32::new(0),
             value: UnsafeCell::new(value),
         }
     }
@@ -38,7 +39,7 @@ impl<T> Latch<T> {
     #[inline]
     pub(crate) fn try_hold(&self) -> Option<Held<'_, T>> {
         // (a `Held` is made only if the latch was free, since its drop leaves it)
-        let was_taken = self.is_taken.swap(true, Acquire);
+        let was_taken = self.taken.fetch_or(1, Acquire) & 1 != 0; // (one instruction tests and sets the bit)
         (!was_taken).then(|| Held(self))
     }
 
@@ -57,7 +58,7 @@ impl<T> Latch<T> {
         loop {
             pause(turn);
             turn += 1;
-            if self.is_taken.load(Relaxed) {
+            if self.taken.load(Relaxed) != 0 {
                 continue;
             }
             if let Some(held) = self.try_hold() {
@@ -88,7 +89,7 @@ impl<T> DerefMut for Held<'_, T> {
 impl<T> Drop for Held<'_, T> {
     #[inline]
     fn drop(&mut self) {
-        self.0.is_taken.store(false, Release);
+        self.0.taken.store(0, Release);
     }
 }
 

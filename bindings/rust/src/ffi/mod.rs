@@ -47,7 +47,7 @@ mod tray;
 mod word;
 
 pub(crate) use calls::{BITS, MIDDLE, Setup, UNARY, number};
-pub(crate) use ends::{Inlet, Outlet, Unsent, Untaken, ends};
+pub(crate) use ends::{Begun, Inlet, Looked, Outlet, Unsent, Untaken, ends};
 pub(crate) use hub::{Hub, NotIssued, Refusal};
 pub(crate) use latch::{Held, Latch};
 pub(crate) use parts::{Consumer, Producer};

@@ -5,10 +5,10 @@ mod place;
 mod row;
 
 pub(super) use meeting::{Meeting, Ticket};
-pub(super) use row::{Chair, Stand};
+pub(super) use place::{At, Chair, Desk, Sending, Stand, Taking};
 
 use super::audit::{GIVEN_BACK, Ledger};
-use crate::ffi::Unsent;
+use super::system::Waiters;
 use row::Row;
 use std::sync::Arc;
 use std::sync::atomic::{AtomicU8, Ordering::SeqCst};
@@ -47,6 +47,7 @@ impl Status {
         Status(AtomicU8::new(State::Open as u8))
     }
 
+    #[inline]
     fn state(&self) -> State {
         match self.0.load(SeqCst) {
             0 => State::Open,
@@ -61,6 +62,7 @@ impl Status {
     }
 
     /// Whether a value of this sender, or job, comes in.
+    #[inline]
     fn admits(&self, who: u64) -> bool {
         match self.state() {
             State::Open => true,
@@ -132,7 +134,7 @@ impl<T> Store<T> {
         }
     }
 
-    /// Puts a value for any receiver, of a sender or of a job.
+    /// Puts a value for any receiver, of a sender that has no desk or of a job.
     #[inline]
     pub(super) fn put(
         &self,
@@ -140,33 +142,32 @@ impl<T> Store<T> {
         value: T,
         who: u64,
     ) -> Result<(), Refused<T>> {
-        match stand.and_then(Stand::desk) {
-            Some(desk) => desk.send(value, who).map_err(|why| self.refusal(why)),
-            None => self.put_without(stand, value, who),
-        }
-    }
-
-    #[inline(never)]
-    fn put_without(&self, stand: Option<&Stand<T>>, value: T, who: u64) -> Result<(), Refused<T>> {
         match self {
             Store::Row(row) => row.put(stand, value, who),
             Store::Meeting(meeting) => meeting.put(value, who),
         }
     }
 
-    #[cold]
-    fn refusal(&self, why: Unsent<T>) -> Refused<T> {
+    /// The row of a sender that has a desk, or of a receiver that has a seat.
+    pub(super) fn row(&self) -> &Row<T> {
         match self {
-            Store::Row(row) => row.refusal(why),
-            Store::Meeting(_) => unreachable!("a sender of a meeting has no desk"),
+            Store::Row(row) => row,
+            Store::Meeting(_) => unreachable!("no end of a meeting has a place"),
         }
     }
 
-    /// Takes the first value that nobody else takes. At a meeting a receiver that waits has a ticket.
+    /// Takes the first value that nobody else takes. At a meeting a receiver that waits has a ticket. If there is room now, it
+    /// wakes one of those that wait for that.
     #[inline]
-    pub(super) fn take(&self, chair: &Chair<T>, who: u64, ticket: Option<&Ticket>) -> Look<T> {
+    pub(super) fn take(
+        &self,
+        chair: &Chair<T>,
+        who: u64,
+        ticket: Option<&Ticket>,
+        full: &Waiters,
+    ) -> Look<T> {
         match self {
-            Store::Row(row) => row.take(chair, who),
+            Store::Row(row) => row.take(chair, who, full),
             Store::Meeting(meeting) => meeting.take(who, ticket),
         }
     }

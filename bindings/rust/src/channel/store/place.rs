@@ -1,8 +1,27 @@
 //! Where the ends of a row stand. Each is used by one thread at a time.
-use crate::ffi::{Held, Inlet, Latch, Unsent};
+use crate::ffi::{Begun, Held, Inlet, Latch, Looked, Outlet, Unsent};
 use std::collections::BTreeMap;
 use std::mem;
-use std::sync::Arc;
+use std::sync::atomic::{AtomicU64, Ordering::Relaxed};
+use std::sync::{Arc, OnceLock};
+
+/// So many values a sender sends before it gets a desk.
+const EARLY: u64 = 17;
+
+/// From which a sender sends.
+pub(crate) type Desk<T> = Place<Inlet<T>>;
+/// From which a receiver takes.
+pub(crate) type Seat<T> = Place<Outlet<T>>;
+
+/// What a sender has. The first few values that it sends go from the lane. So a sender for one value costs no end.
+pub(crate) struct Stand<T> {
+    desk: OnceLock<Arc<Desk<T>>>,
+    /// How many values it sent before it got a desk.
+    sent: AtomicU64,
+}
+
+/// What a receiver has. It gets a seat with its first receive.
+pub(crate) type Chair<T> = OnceLock<Arc<Seat<T>>>;
 
 /// (It has its own cache lines, as a [`Line`](crate::channel::system::Line).)
 #[repr(align(128))]
@@ -10,8 +29,10 @@ pub(crate) struct Place<E>(Latch<Kept<E>>);
 
 pub(crate) struct Kept<E> {
     pub(super) end: E,
-    /// How many values went through this place.
-    pub(super) count: u64,
+    /// So many values more go through this place until there is more to do than to count them.
+    left: u64,
+    /// How many will have gone through it by then.
+    goal: u64,
     /// How many calls here sent or took nothing.
     pub(super) misses: u64,
     /// How many calls there were when somebody last looked whether the end does nothing.
@@ -28,11 +49,58 @@ pub(super) struct Places<E> {
     gone: u64,
 }
 
+impl<T> Default for Stand<T> {
+    fn default() -> Self {
+        Stand {
+            desk: OnceLock::new(),
+            sent: AtomicU64::new(0),
+        }
+    }
+}
+
+impl<T> Stand<T> {
+    #[inline]
+    pub(crate) fn desk(&self) -> Option<&Arc<Desk<T>>> {
+        self.desk.get()
+    }
+
+    /// Counts a value that its sender sent without a desk. Returns whether it is time for one.
+    pub(super) fn is_due(&self) -> bool {
+        self.sent.fetch_add(1, Relaxed) + 1 == EARLY
+    }
+
+    pub(super) fn give(&self, desk: Arc<Desk<T>>) {
+        drop(self.desk.set(desk)); // (only once)
+    }
+}
+
+impl<E> Kept<E> {
+    /// Counts a value. Returns whether there is more to do now, and then somebody calls `go_on`.
+    #[inline]
+    pub(super) fn pass(&mut self) -> bool {
+        self.left -= 1;
+        self.left == 0
+    }
+
+    /// There is no more to do until so many values went through this place.
+    pub(super) fn go_on(&mut self, values: u64) {
+        self.left = values;
+        self.goal += values;
+    }
+
+    /// How many values went through this place.
+    pub(super) fn count(&self) -> u64 {
+        self.goal - self.left
+    }
+}
+
 impl<E> Place<E> {
-    pub(super) fn new(end: E) -> Place<E> {
+    /// There is more to do when so many values went through it.
+    pub(super) fn new(end: E, values: u64) -> Place<E> {
         Place(Latch::new(Kept {
             end,
-            count: 0,
+            left: values,
+            goal: values,
             misses: 0,
             seen: 0,
             fresh: 0,
@@ -48,7 +116,7 @@ impl<E> Place<E> {
     /// left, and so is one that is in use.
     pub(super) fn tidy(&self, new: impl FnOnce() -> Option<E>) -> Option<E> {
         let mut kept = self.0.try_hold()?;
-        let calls = kept.count + kept.misses;
+        let calls = kept.count() + kept.misses;
         let is_idle = mem::replace(&mut kept.seen, calls) == calls && calls != kept.fresh;
         let new = is_idle.then(new).flatten()?;
         kept.fresh = calls;
@@ -56,16 +124,65 @@ impl<E> Place<E> {
     }
 }
 
+/// A place that is held.
+pub(crate) type At<'a, E> = Held<'a, Kept<E>>;
+
+/// A send that is not done yet, at the place where it began.
+pub(crate) struct Sending<'a, T>(At<'a, Inlet<T>>, Begun<T>);
+
+/// A take that took nothing so far, at the place where it began.
+pub(crate) struct Taking<'a, T> {
+    pub(super) at: At<'a, Outlet<T>>,
+    pub(super) looked: Looked,
+}
+
+/// What was taken, and the place if there is more to do than to count the value. It is held then.
+type Taken<'a, T> = (T, Option<At<'a, Outlet<T>>>);
+
 impl<T> Place<Inlet<T>> {
+    /// Sends a value, if one call does that.
     #[inline]
-    pub(super) fn send(&self, value: T, who: u64) -> Result<(), Unsent<T>> {
-        let mut kept = self.hold();
-        let sent = kept.end.send(value, who);
+    pub(crate) fn send(&self, value: T) -> Result<(), Sending<'_, T>> {
+        let mut at = self.hold();
+        match at.end.send(value) {
+            Ok(()) => {
+                at.pass();
+                Ok(())
+            }
+            Err(begun) => Err(Sending(at, begun)),
+        }
+    }
+}
+
+impl<T> Sending<'_, T> {
+    pub(crate) fn go_on(self) -> Result<(), Unsent<T>> {
+        let Sending(mut at, begun) = self;
+        let sent = at.end.send_further(begun);
         match sent {
-            Ok(()) => kept.count += 1,
-            Err(_) => kept.misses += 1,
+            Ok(()) => drop(at.pass()),
+            Err(_) => at.misses += 1,
         }
         sent
+    }
+}
+
+impl<T> Place<Outlet<T>> {
+    /// Takes a value, if one call does that.
+    #[inline]
+    pub(crate) fn take(&self) -> Result<Taken<'_, T>, Taking<'_, T>> {
+        let mut at = self.hold();
+        match at.end.take() {
+            Ok(value) => Ok((value, at.pass().then_some(at))),
+            Err(looked) => Err(Taking { at, looked }),
+        }
+    }
+}
+
+impl<'a, T> Taking<'a, T> {
+    /// A take that has not looked.
+    pub(super) fn begin(seat: &'a Seat<T>) -> Taking<'a, T> {
+        let (at, looked) = (seat.hold(), Looked::default());
+        Taking { at, looked }
     }
 }
 
@@ -79,8 +196,8 @@ impl<E> Default for Places<E> {
 }
 
 impl<E> Places<E> {
-    pub(super) fn add(&mut self, end: E) -> Arc<Place<E>> {
-        let place = Arc::new(Place::new(end));
+    pub(super) fn add(&mut self, place: Place<E>) -> Arc<Place<E>> {
+        let place = Arc::new(place);
         self.all.insert(address(&place), Arc::clone(&place));
         place
     }
@@ -90,7 +207,7 @@ impl<E> Places<E> {
     pub(super) fn remove(&mut self, place: &Arc<Place<E>>) -> bool {
         let before = self.gone / 1024;
         if self.all.remove(&address(place)).is_some() {
-            self.gone += place.hold().count;
+            self.gone += place.hold().count();
         }
         self.gone / 1024 != before
     }
@@ -110,7 +227,7 @@ impl<E> Places<E> {
 
     /// How many values went through those that are held, and those that are gone.
     pub(super) fn count(&self, held: &[Held<'_, Kept<E>>]) -> u64 {
-        let there: u64 = held.iter().map(|it| it.count).sum();
+        let there: u64 = held.iter().map(|it| it.count()).sum();
         self.gone + there
     }
 }

@@ -9,20 +9,17 @@
 //!
 //! An end that stands in a segment of the row keeps that segment and all later ones. So ends that do nothing are replaced
 //! from time to time by new ones, which stand in no segment.
-use super::place::{Kept, Place, Places};
+use super::place::{At, Chair, Desk, Place, Places, Seat, Stand, Taking};
 use super::{Look, Plan, Refused, State, Status};
 use crate::channel::audit::{GIVEN_BACK, Ledger};
-use crate::channel::system::{Line, Panics, lock};
-use crate::ffi::{self, Held, Inlet, Outlet, Unsent, Untaken};
+use crate::channel::system::{Line, Panics, Waiters, lock};
+use crate::ffi::{self, Inlet, Looked, Outlet, Unsent, Untaken};
 use std::alloc::{Layout, handle_alloc_error};
 use std::collections::VecDeque;
 use std::sync::atomic::AtomicU64;
 use std::sync::atomic::Ordering::{Acquire, Relaxed, Release, SeqCst};
-use std::sync::{Arc, Mutex, OnceLock};
+use std::sync::{Arc, Mutex};
 use std::{iter, mem};
-
-/// So many values a sender sends before it gets a desk.
-const EARLY: u64 = 17;
 
 /// After so many takes a receiver looks which ends do nothing. (So many values are in a segment.)
 const TIDY: u64 = 1024;
@@ -50,21 +47,6 @@ struct Sent {
     taken: AtomicU64,
 }
 
-/// From which a sender sends.
-pub(crate) type Desk<T> = Place<Inlet<T>>;
-/// From which a receiver takes.
-pub(crate) type Seat<T> = Place<Outlet<T>>;
-
-/// What a sender has. The first few values that it sends go from the lane. So a sender for one value costs no end.
-pub(crate) struct Stand<T> {
-    desk: OnceLock<Arc<Desk<T>>>,
-    /// How many values it sent before it got a desk.
-    sent: AtomicU64,
-}
-
-/// What a receiver has. It gets a seat with its first receive.
-pub(crate) type Chair<T> = OnceLock<Arc<Seat<T>>>;
-
 /// The ends from which all others are made. They stand in no segment until the row is closed.
 struct Home<T> {
     inlet: Inlet<T>,
@@ -83,20 +65,9 @@ fn made<E>(end: Option<E>) -> E {
     end.unwrap_or_else(|| handle_alloc_error(Layout::new::<E>()))
 }
 
-impl<T> Default for Stand<T> {
-    fn default() -> Self {
-        Stand {
-            desk: OnceLock::new(),
-            sent: AtomicU64::new(0),
-        }
-    }
-}
-
-impl<T> Stand<T> {
-    #[inline]
-    pub(crate) fn desk(&self) -> Option<&Arc<Desk<T>>> {
-        self.desk.get()
-    }
+/// After how many takes more a receiver tidies up. (Receivers do so at different times.)
+fn until_tidy(count: u64, who: u64) -> u64 {
+    TIDY - count.wrapping_add(who.wrapping_mul(389)) % TIDY
 }
 
 impl<T> Row<T> {
@@ -105,7 +76,7 @@ impl<T> Row<T> {
         Row {
             plan,
             status: Status::open(),
-            lane: Place::new(made(inlet.another())),
+            lane: Place::new(made(inlet.another()), u64::MAX),
             home: Mutex::new(Home { inlet, outlet }),
             standing: Mutex::new(Standing {
                 desks: Places::default(),
@@ -127,22 +98,32 @@ impl<T> Row<T> {
     }
 
     /// Counts a send of a sender that has no desk, and gives it one if it is time for that, and there is memory.
+    #[inline(never)]
     fn settle(&self, stand: &Stand<T>) {
-        let is_alone = self.plan.bound.is_none() && self.plan.audit.is_none();
-        if !is_alone || stand.sent.fetch_add(1, Relaxed) + 1 != EARLY {
+        if !stand.is_due() {
             return;
         }
         let inlet = lock(&self.home).inlet.another();
         // (whoever tidies up takes the two locks in the other order)
         if let Some(inlet) = inlet {
-            let desk = lock(&self.standing).desks.add(inlet);
-            drop(stand.desk.set(desk)); // (only once)
+            let desk = Place::new(inlet, u64::MAX);
+            let desk = lock(&self.standing).desks.add(desk);
+            stand.give(desk);
         }
     }
 
-    fn new_seat(&self) -> Arc<Seat<T>> {
+    fn new_seat(&self, who: u64) -> Arc<Seat<T>> {
         let outlet = made(lock(&self.home).outlet.another());
-        lock(&self.standing).seats.add(outlet)
+        let seat = Place::new(outlet, self.plain_takes(0, who));
+        lock(&self.standing).seats.add(seat)
+    }
+
+    /// After so many takes more, a receiver has more to do than to count. With a bound that is each take.
+    fn plain_takes(&self, count: u64, who: u64) -> u64 {
+        if self.plan.bound.is_some() {
+            return 1;
+        }
+        until_tidy(count, who)
     }
 
     /// A sender goes.
@@ -165,7 +146,8 @@ impl<T> Row<T> {
         who: u64,
     ) -> Result<(), Refused<T>> {
         self.put_in_lane(value, who)?;
-        if let Some(stand) = stand {
+        let is_alone = self.plan.bound.is_none() && self.plan.audit.is_none();
+        if let (Some(stand), true) = (stand, is_alone) {
             self.settle(stand);
         }
         Ok(())
@@ -181,7 +163,11 @@ impl<T> Row<T> {
                 return Err(Refused::Full(value));
             }
         }
-        match at.end.send(value, who) {
+        let sent = match &self.plan.audit {
+            None => (at.end.send(value)).or_else(|begun| at.end.send_further(begun)),
+            Some(_) => at.end.send_signed(value, who),
+        };
+        match sent {
             Ok(()) => {
                 self.count(&mut at);
                 Ok(())
@@ -191,10 +177,10 @@ impl<T> Row<T> {
     }
 
     /// Counts a value as sent.
-    fn count(&self, at: &mut Kept<Inlet<T>>) {
-        at.count += 1;
+    fn count(&self, at: &mut At<'_, Inlet<T>>) {
+        at.pass();
         if self.plan.bound.is_some() {
-            self.sent.0.count.store(at.count, Release);
+            self.sent.0.count.store(at.count(), Release);
         }
     }
 
@@ -202,7 +188,7 @@ impl<T> Row<T> {
     #[cold]
     fn refused(
         &self,
-        mut at: Held<'_, Kept<Inlet<T>>>,
+        mut at: At<'_, Inlet<T>>,
         why: Unsent<T>,
         who: u64,
     ) -> Result<(), Refused<T>> {
@@ -254,44 +240,58 @@ impl<T> Row<T> {
         }
     }
 
-    /// Takes the first value that nobody else takes.
-    #[allow(clippy::inline_always, reason = "a call costs a tenth of a receive")]
-    #[inline(always)]
-    pub(crate) fn take(&self, chair: &Chair<T>, who: u64) -> Look<T> {
-        let mut at = chair.get_or_init(|| self.new_seat()).hold();
+    /// Takes the first value that nobody else takes, for a receiver that may have no seat.
+    pub(crate) fn take(&self, chair: &Chair<T>, who: u64, full: &Waiters) -> Look<T> {
+        let seat = chair.get_or_init(|| self.new_seat(who));
+        self.take_further(Taking::begin(seat), who, full)
+    }
+
+    /// Goes on with a take.
+    pub(crate) fn take_further(&self, taking: Taking<'_, T>, who: u64, full: &Waiters) -> Look<T> {
+        let Taking { mut at, looked } = taking;
         if let Some(ledger) = &self.plan.audit {
-            return self.take_with(ledger, at, who);
+            return self.take_with(ledger, at, looked, who, full);
         }
-        match at.end.take() {
-            Ok((value, _)) => self.took(at, value, who),
+        match at.end.take_further(looked) {
+            Ok((value, _)) => self.took(at, value, who, full),
             Err(Untaken::Nothing) => {
                 at.misses += 1;
                 Look::Nothing
             }
-            Err(Untaken::Closed) => self.take_back(at, who),
+            Err(Untaken::Closed) => self.take_back(at, who, full),
         }
     }
 
     /// Counts a value as taken.
-    #[inline]
-    fn took(&self, mut at: Held<'_, Kept<Outlet<T>>>, value: T, who: u64) -> Look<T> {
-        at.count += 1;
-        if self.plan.bound.is_some() {
-            self.taken.0.fetch_add(1, SeqCst);
-        }
-        // (receivers do so at different times)
-        if at.count.wrapping_add(who.wrapping_mul(389)) % TIDY == 0 {
-            drop(at);
-            self.tidy();
+    fn took(&self, mut at: At<'_, Outlet<T>>, value: T, who: u64, full: &Waiters) -> Look<T> {
+        if at.pass() {
+            self.go_on(at, who, full);
         }
         Look::Took(value)
     }
 
+    /// Does what there is to do after a take, besides counting it: to say that there is room, or to tidy up.
+    #[inline]
+    pub(crate) fn go_on(&self, mut at: At<'_, Outlet<T>>, who: u64, full: &Waiters) {
+        let (count, is_bounded) = (at.count(), self.plan.bound.is_some());
+        at.go_on(self.plain_takes(count, who));
+        if is_bounded {
+            self.taken.0.fetch_add(1, SeqCst);
+        }
+        drop(at);
+        if until_tidy(count, who) == TIDY {
+            self.tidy();
+        }
+        if is_bounded {
+            full.wake_one();
+        }
+    }
+
     /// Takes what a job gave back, after all is taken that was sent before the row was closed.
     #[cold]
-    fn take_back(&self, at: Held<'_, Kept<Outlet<T>>>, who: u64) -> Look<T> {
+    fn take_back(&self, at: At<'_, Outlet<T>>, who: u64, full: &Waiters) -> Look<T> {
         let back = lock(&self.back).pop_front();
-        back.map_or(Look::Nothing, |value| self.took(at, value, who))
+        back.map_or(Look::Nothing, |value| self.took(at, value, who, full))
     }
 
     /// The same with an audit. The takes are one after the other, so the book has their order.
@@ -299,11 +299,13 @@ impl<T> Row<T> {
     fn take_with(
         &self,
         ledger: &Ledger<T>,
-        mut at: Held<'_, Kept<Outlet<T>>>,
+        mut at: At<'_, Outlet<T>>,
+        looked: Looked,
         who: u64,
+        full: &Waiters,
     ) -> Look<T> {
         let book = ledger.open();
-        let taken = match at.end.take() {
+        let taken = match at.end.take_further(looked) {
             Ok(taken) => Some(taken),
             Err(Untaken::Nothing) => None,
             Err(Untaken::Closed) => lock(&self.back).pop_front().map(|it| (it, GIVEN_BACK)),
@@ -313,7 +315,7 @@ impl<T> Row<T> {
             return Look::Nothing;
         };
         book.write(sender, who);
-        self.took(at, value, who)
+        self.took(at, value, who, full)
     }
 
     /// Replaces the ends that did nothing since this was last done. If there are many ends, that is not done each time.
@@ -338,7 +340,7 @@ impl<T> Row<T> {
         let lane = self.lane.hold(); // (before the lock, as a sender that finds no room)
         let Standing { desks, seats, .. } = &*lock(&self.standing);
         let (senders, receivers) = (desks.hold(), seats.hold());
-        let sent = desks.count(&senders) + lane.count;
+        let sent = desks.count(&senders) + lane.count();
         let waiting = sent.saturating_sub(seats.count(&receivers));
         usize::try_from(waiting).unwrap_or(usize::MAX)
     }
@@ -366,7 +368,7 @@ impl<T> Row<T> {
         drop(standing);
         let mut back = mem::take(&mut *lock(&self.back)).into_iter();
         let next = || {
-            let in_row = lock(&self.home).outlet.take().ok();
+            let in_row = lock(&self.home).outlet.take_further(Looked::default()).ok();
             in_row.or_else(|| back.next().map(|it| (it, GIVEN_BACK)))
         };
         // (under no lock, since a value may have ends of this channel)
