@@ -99,17 +99,29 @@ impl Drop for End {
     }
 }
 
-/// What a thread does after so many tries that others were first at: some microseconds, and now and then a yield. The one that
+/// What a sender does after so many tries that others were first at: it spins for some microseconds, or yields. The one that
 /// was first then works alone, which is worth more than the time: two that try all the time take the lines of memory from each
-/// other. With more yields, a receiver that is many segments behind would come no nearer: it goes on by a few of them at a time.
+/// other. It yields ever more rarely, since whoever is many segments behind goes on by a few of them at each try.
 pub(super) fn pause(turn: u32) {
-    if turn % 16 == 15 {
+    if turn > 1 && (turn + 1).is_power_of_two() {
         return thread::yield_now();
     }
-    // (a `spin_loop` takes from 4 to 40 nanoseconds, by the processor)
-    let mut spins = 0;
-    while hint::black_box(spins) < 4096 << turn.min(2) {
-        spins += 1;
+    spin(4096 << turn.min(2));
+}
+
+/// What a receiver does. It yields sooner, since the sender of the next value may need the processor to mark it.
+fn pause_for_value(turn: u32) {
+    if turn > 0 && (turn + 1).is_power_of_two() {
+        return thread::yield_now();
+    }
+    spin(4096);
+}
+
+/// (A `spin_loop` takes from 4 to 40 nanoseconds, by the processor. A turn of this loop takes less than one.)
+fn spin(turns: u32) {
+    let mut turn = 0;
+    while hint::black_box(turn) < turns {
+        turn += 1;
     }
 }
 
@@ -347,7 +359,7 @@ impl<T> Outlet<T> {
                 calls::TOOK => break,
                 calls::NOTHING => return Err(Untaken::Nothing),
                 calls::CLOSED => return Err(Untaken::Closed),
-                calls::AGAIN => pause(turn),
+                calls::AGAIN => pause_for_value(turn),
                 code => excluded("hz_channel_try_receive", code),
             }
             code = self.call(&mut word);
