@@ -110,7 +110,7 @@ pub(super) fn pause(turn: u32) {
 }
 
 /// What a receiver does. It yields sooner, since the sender of the next value may need the processor to mark it.
-fn pause_for_value(turn: u32) {
+pub(super) fn pause_for_value(turn: u32) {
     if turn > 0 && (turn + 1).is_power_of_two() {
         return thread::yield_now();
     }
@@ -172,6 +172,8 @@ pub(crate) enum Untaken {
     Nothing,
     /// No value can come any more, for ever.
     Closed,
+    /// A value is just being sent or taken.
+    Again,
 }
 
 /// The ends of a new channel, if there is memory for it.
@@ -346,23 +348,20 @@ impl<T> Outlet<T> {
         unsafe { hz_channel_try_receive(&mut self.end, word) }
     }
 
-    /// Goes on with a take. The value comes with the number of its sender if the channel is signed. A value that is just being
-    /// sent or taken may hold this up.
+    /// Goes on with a take, by one call if that did not say yet what there is. The value comes with the number of its sender
+    /// if the channel is signed.
     pub(crate) fn take_further(&mut self, looked: Looked) -> Result<(T, u64), Untaken> {
         let mut word = Word::EMPTY;
-        let mut code = match looked {
+        let code = match looked {
             Looked(calls::DONE) => self.call(&mut word),
             Looked(code) => code,
         };
-        for turn in 0.. {
-            match code {
-                calls::TOOK => break,
-                calls::NOTHING => return Err(Untaken::Nothing),
-                calls::CLOSED => return Err(Untaken::Closed),
-                calls::AGAIN => pause_for_value(turn),
-                code => excluded("hz_channel_try_receive", code),
-            }
-            code = self.call(&mut word);
+        match code {
+            calls::TOOK => {}
+            calls::NOTHING => return Err(Untaken::Nothing),
+            calls::CLOSED => return Err(Untaken::Closed),
+            calls::AGAIN => return Err(Untaken::Again),
+            code => excluded("hz_channel_try_receive", code),
         }
         if self.is_signed {
             // SAFETY: ownership. An inlet of this channel made the word of a value with a number, and this outlet alone got it.
@@ -370,5 +369,17 @@ impl<T> Outlet<T> {
         }
         // SAFETY: ownership. An inlet of this channel made the word of a `T`, and this outlet alone got it, now.
         Ok((unsafe { value_of(word) }, 0))
+    }
+
+    /// Takes the next value that is left, once nobody else receives.
+    pub(crate) fn take_left(&mut self) -> Option<(T, u64)> {
+        let look = |turn| match self.take_further(Looked::default()) {
+            Err(Untaken::Again) => {
+                pause_for_value(turn);
+                None
+            }
+            taken => Some(taken.ok()),
+        };
+        (0..).find_map(look).flatten()
     }
 }

@@ -2,7 +2,7 @@
 //!
 //! To take it costs one access that no other thread can come between, and to leave it a plain store. A lock of the standard
 //! library makes two such accesses, since a thread may sleep at it. Here a thread pauses, and then yields.
-use super::ends::pause;
+use super::ends::{pause, pause_for_value};
 use std::cell::UnsafeCell;
 use std::ops::{Deref, DerefMut};
 use std::panic::{RefUnwindSafe, UnwindSafe};
@@ -65,6 +65,16 @@ impl<T> Latch<T> {
                 return held;
             }
         }
+    }
+}
+
+impl<T> Held<'_, T> {
+    /// Leaves the latch while a receiver waits for the sender of a value, and takes it again.
+    pub(crate) fn pause(self, turn: u32) -> Self {
+        let latch = self.0;
+        drop(self);
+        pause_for_value(turn);
+        latch.hold()
     }
 }
 

@@ -246,19 +246,26 @@ impl<T> Row<T> {
         self.take_further(Taking::begin(seat), who, full)
     }
 
-    /// Goes on with a take.
+    /// Goes on with a take. A value that is just being sent or taken may hold this up.
     pub(crate) fn take_further(&self, taking: Taking<'_, T>, who: u64, full: &Waiters) -> Look<T> {
-        let Taking { mut at, looked } = taking;
-        if let Some(ledger) = &self.plan.audit {
-            return self.take_with(ledger, at, looked, who, full);
-        }
-        match at.end.take_further(looked) {
-            Ok((value, _)) => self.took(at, value, who, full),
-            Err(Untaken::Nothing) => {
-                at.misses += 1;
-                Look::Nothing
+        let Taking { mut at, mut looked } = taking;
+        let mut turn = 0;
+        loop {
+            let taken = match &self.plan.audit {
+                None => at.end.take_further(looked).map(|it| it.0),
+                Some(ledger) => self.take_with(ledger, &mut at.end, looked, who),
+            };
+            match taken {
+                Ok(value) => return self.took(at, value, who, full),
+                Err(Untaken::Nothing) => {
+                    at.misses += 1;
+                    return Look::Nothing;
+                }
+                Err(Untaken::Closed) => return self.take_back(at, who, full),
+                Err(Untaken::Again) => at = at.pause(turn), // (so no sender waits for the seat)
             }
-            Err(Untaken::Closed) => self.take_back(at, who, full),
+            turn += 1;
+            looked = Looked::default();
         }
     }
 
@@ -294,28 +301,25 @@ impl<T> Row<T> {
         back.map_or(Look::Nothing, |value| self.took(at, value, who, full))
     }
 
-    /// The same with an audit. The takes are one after the other, so the book has their order.
+    /// Takes a value with an audit. The takes are one after the other, so the book has their order.
     #[cold]
     fn take_with(
         &self,
         ledger: &Ledger<T>,
-        mut at: At<'_, Outlet<T>>,
+        end: &mut Outlet<T>,
         looked: Looked,
         who: u64,
-        full: &Waiters,
-    ) -> Look<T> {
+    ) -> Result<T, Untaken> {
         let book = ledger.open();
-        let taken = match at.end.take_further(looked) {
-            Ok(taken) => Some(taken),
-            Err(Untaken::Nothing) => None,
-            Err(Untaken::Closed) => lock(&self.back).pop_front().map(|it| (it, GIVEN_BACK)),
-        };
-        let Some((value, sender)) = taken else {
-            at.misses += 1;
-            return Look::Nothing;
+        let (value, sender) = match end.take_further(looked) {
+            Err(Untaken::Closed) => {
+                let back = lock(&self.back).pop_front();
+                (back.ok_or(Untaken::Nothing)?, GIVEN_BACK)
+            }
+            taken => taken?,
         };
         book.write(sender, who);
-        self.took(at, value, who, full)
+        Ok(value)
     }
 
     /// Replaces the ends that did nothing since this was last done. If there are many ends, that is not done each time.
@@ -368,7 +372,7 @@ impl<T> Row<T> {
         drop(standing);
         let mut back = mem::take(&mut *lock(&self.back)).into_iter();
         let next = || {
-            let in_row = lock(&self.home).outlet.take_further(Looked::default()).ok();
+            let in_row = lock(&self.home).outlet.take_left();
             in_row.or_else(|| back.next().map(|it| (it, GIVEN_BACK)))
         };
         // (under no lock, since a value may have ends of this channel)
