@@ -124,9 +124,10 @@ fn send(kept: KeptSender<u64>, value: u64, wake: &mut WakeOut) -> (Held<u64>, u3
 }
 
 /// Receives the next value, and goes to sleep if there is none: then the code is `SLEEPS`. Let the thread sleep until
-/// it is woken at this place, and call again. Each other code ends the sleep. `TOOK` writes a value. Else none was
-/// received: `AGAIN` if another was first, there is no memory, or the receiver still owes something; `CLOSED` if no
-/// value can come any more; `CROWDED` if it is refused; `BAD_HANDLE` if the handle leads to no receiver.
+/// it is woken at this place, and call again. Each other code ends the sleep. `TOOK` writes a value. After any
+/// other code none was received. `AGAIN` says that another was first, that there is no memory, or that the receiver
+/// still owes something. `CLOSED` says that no value can come any more, and `CROWDED` that the receive is refused. The
+/// code is `BAD_HANDLE` if the handle leads to no receiver.
 #[unsafe(no_mangle)]
 pub extern "C" fn hz_channel_receive(receiver: &mut End, value: &mut u64, wake: &mut WakeOut) -> u32
     ensures took { result ≡ TOOK

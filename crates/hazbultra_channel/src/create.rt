@@ -51,9 +51,9 @@ fn new_ends(alloc: Global) -> Option<(Thing, Thing)>
 }
 
 /// Makes another end of the same kind, sender or receiver, at the place of this one. The call returns `BAD_HANDLE` if
-/// `end` leads to no end or `other` to something already, `AGAIN` if the end owes something, sleeps or goes for good,
-/// `CROWDED` if so many ends were made that they cannot be counted, and `NO_MEMORY` if memory ran out. Only `DONE`
-/// makes an end.
+/// `end` leads to no end, or if `other` leads to something already. It returns `AGAIN` if the end owes something, sleeps
+/// or goes for good. `CROWDED` says that the ends cannot be counted any more, and `NO_MEMORY` that memory ran out. Only
+/// `DONE` makes an end.
 #[unsafe(no_mangle)]
 pub extern "C" fn hz_channel_another(alloc: Global, end: &mut End, other: &mut End) -> u32
     ensures made { result ≡ DONE → EndWent IsAnother end.old.block.thing other.new.block.thing }

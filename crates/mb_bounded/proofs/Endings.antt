@@ -19,7 +19,7 @@ module _ {T : Type 0} where
       → All P ys × P p
   last_of P xs ys p e h = split_last P ys p (subst (All P) e h)
 
-  -- view v became w: of the passes `first`, the `rest` are still to be taken back
+  -- the hub is to take back the passes `first`. Its view was v and is now w, and the passes `rest` are still out
   pub record Taking (v : View T) (first : List (Past T)) (w : View T) (rest : List (Past T)) : Type 0 where
     pub role : w.role ≡ Issuer
     pub enough : length rest ≤ w.out

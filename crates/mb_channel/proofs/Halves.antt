@@ -12,7 +12,7 @@ use Rattle.mb_channel.specs.declared.busy.Debt.TheVariants as owed
 use Rattle.mb_channel.specs.Begun.{half_at, half_in}
 use Rattle.mb_channel.specs.Deeds.{Deed, deed}
 use Rattle.mb_channel.specs.Ends.{Standing}
-use Rattle.mb_channel.specs.Halves.{EndsWith, HasClaimed, HasDrawn, last, to_read, to_write, work_at}
+use Rattle.mb_channel.specs.Halves.{EndsWith, HasClaimed, HasDrawn, IsLastOf, last, to_read, to_write, work_at}
 use Rattle.mb_channel.specs.Standing.{OneGot, OneSent, got_in, sent_in}
 use Rattle.mb_channel.specs.Work.{HasGot, HasSent, Work}
 use Rattle.mb_channel.proofs.Deeds.{log_more}
@@ -105,25 +105,25 @@ module _ {T : Type 0} where
   pub draws_one : (c : Seat (Homes T) (Knows T)) (at : ℕ) (o : Option (View T)) (u : Work T) (x : T) (b : Begun T)
       → c.me.0.at ≡ at → o ≡ Some u.pass → HasDrawn x u b
       → let w = stand c (Some (work_at b).pass) in
-      OneSent x (stand c o) w × (to_write at (half_in b.pass) ≡ last (sent_in w))
+      OneSent x (stand c o) w × IsLastOf (to_write at (half_in b.pass)) (sent_in w)
       × EndsWith (record { segment = at; number = b.position }) x (sent_in w)
   draws_one c at o u x b here is has =
       let n = has.1.0.number in
       let e = ends_with c.me.0.at n at b.position x _ _ here has.1.1
       (log_more (λ a. a.sent) c.me.0 o u.pass (work_at b).pass n x is has.1.0.sent) in
-      (one_sent c o u (work_at b) x is has.1.0, ap (to_write at) has.0 ∙ sym e, e)
+      (one_sent c o u (work_at b) x is has.1.0, (ap (to_write at) has.0 ∙ sym e, ap is_some e), e)
 
   pub claims_one : (c : Seat (Homes T) (Knows T)) (at : ℕ) (o : Option (View T)) (u : Work T) (x : T) (b : Begun T)
       → c.me.0.at ≡ at → o ≡ Some u.pass → HasClaimed x u b
       → let w = stand c (Some (work_at b).pass) in
       OneGot x (stand c o) w
-      × ((to_read at (half_in b.pass) ≡ last (got_in w)) × (is_some (last (got_in w)) ≡ true) × (b.debt ≡ owed.Nothing))
+      × (IsLastOf (to_read at (half_in b.pass)) (got_in w) × (b.debt ≡ owed.Nothing))
       × EndsWith (record { segment = at; number = b.position }) x (got_in w)
   claims_one c at o u x b here is has =
       let n = has.1.0.number in
       let e = ends_with c.me.0.at n at b.position x _ _ here has.1.1
       (log_more (λ a. a.got) c.me.0 o u.pass (work_at b).pass n x is has.1.0.got) in
-      (one_got c o u (work_at b) x is has.1.0, (ap (to_read at) has.0.0 ∙ sym e, ap is_some e, has.0.1), e)
+      (one_got c o u (work_at b) x is has.1.0, ((ap (to_read at) has.0.0 ∙ sym e, ap is_some e), has.0.1), e)
 
   -- ---- what is to be written, or read
   abbrev known : Deed T → Option (Deed T) → Deed T

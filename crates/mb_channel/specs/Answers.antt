@@ -14,6 +14,12 @@ IfClosed NoMemory closed = Unit {0}
 IfClosed Ended closed = closed
 IfClosed Full closed = Unit {0}
 
+-- the call was refused before it made a sender: never for memory, and by `Closed` only if this is so
+abbrev pub IfUnmade : Refused → Type 0 → Type 0
+IfUnmade NoMemory closed = ⊥
+IfUnmade Ended closed = closed
+IfUnmade Full closed = Unit {0}
+
 -- an end got a pass, went on, found that no segment was there yet, or ever will be, or nothing changed
 abbrev pub OfCame : {T : Type 0} → Came T → (Arc (Segment T Global) Global → Pass T → Type 0) → (ℕ → Type 0)
     → Type 0 → Type 0 → Type 0 → Type 0

@@ -75,14 +75,17 @@ to_read k Nothing = None
 to_read k (Writes s) = None
 to_read k (Reads s) = Some (deed k s)
 
+-- there is such a call, and it is the last of the log
+abbrev pub IsLastOf : {T : Type 0} → Option (Deed T) → List (Deed T) → Type 0
+IsLastOf o ds = (o ≡ last ds) × (is_some (last ds) ≡ true)
+
 -- it has to write what it sent last
 abbrev pub IsWriter : {T : Type 0} → Halfway T → Type 0
-IsWriter h = to_write h.at (half_in h.begun.pass) ≡ last (sent_in (stand_half h))
+IsWriter h = IsLastOf (to_write h.at (half_in h.begun.pass)) (sent_in (stand_half h))
 
 -- it has to read what it received last, and owes nothing else
 abbrev pub IsReader : {T : Type 0} → Halfway T → Type 0
-IsReader h = (to_read h.at (half_in h.begun.pass) ≡ last (got_in (stand_half h)))
-    × (is_some (last (got_in (stand_half h))) ≡ true) × (h.begun.debt ≡ owed.Nothing)
+IsReader h = IsLastOf (to_read h.at (half_in h.begun.pass)) (got_in (stand_half h)) × (h.begun.debt ≡ owed.Nothing)
 
 -- since v, it sent x to its place, and has still to write it
 abbrev pub DrawsOne : {T : Type 0} → T → Standing T → Halfway T → Type 0

@@ -29,6 +29,7 @@ pub mod Kept
 pub mod Lengths
 pub mod States
 pub mod Begun
+pub mod HalfSamples
 pub mod Halves
 pub mod Drawing
 pub mod Claiming

@@ -7,8 +7,8 @@ use Rattle.mb_channel.specs.Homes.{IsDone, came_back}
 use Rattle.mb_channel.specs.Stays.{AreStays, Told, life_of}
 
 -- ---- the segments
--- each was ended, and had these values left: what its hub knows and what is left are one history, and nothing is left
--- where a pass saw that no value can come any more
+-- each was ended, and had these values left. What its hub knows and what is left are one history. Nothing is left where a
+-- pass saw that no value can come any more
 abbrev pub HaveEnded : {T : Type 0} → List (Home T) → List (List T) → Type 0
 HaveEnded [] [] = Unit {0}
 HaveEnded [] (l ∷ ls) = ⊥

@@ -85,9 +85,10 @@ all_done [] = true
 all_done (h ∷ hs) = (hub_view h.hub).over && all_done hs
 
 -- Whoever closes the list or takes the last sender away knows it. Unless it is dropped, it cuts the last segment, and is
--- then told how many segments there are. A receive answers "closed" only to an end that was told so, behind segments that
--- are done. A send answers it only to an end that knows that the list is closed. So both may be said here before any call
--- answered it. Neither is forgotten when that end is given back
+-- then told how many segments there are. Until an end is told that, `closers` counts all ends that know that the list is
+-- closed or has no sender. Those that only saw it count too, and those that were dropped since. A receive answers "closed"
+-- only to an end that was told so, behind segments that are done. A send answers it only to an end that knows that the list
+-- is closed. So both may be said here before any call answered it. Neither is forgotten when that end is given back
 abbrev pub moment_of : {T : Type 0} (c : ListState T) (k : Keeps c) (now : ℕ → SegmentState T)
     → AreStates now k.homes → Moment T
 moment_of c k now a = record {

@@ -9,8 +9,8 @@ use crate::home::Shared;
 use crate::inside::{Inside, rested};
 use mb_segment::{Draw, Look, Pass, Wake};
 
-/// A share of the segment, and a pass there that drew this position and has to mark it, or that claimed it and has to
-/// read it. Besides it owes so much. It cannot be dropped.
+/// A pass that drew a position of its segment and has still to mark it, or that claimed one and has still to read it. Its
+/// `debt` is what it owes besides. It cannot be dropped.
 pub struct Begun<T: Drop> {
     pub(crate) segment: Shared<T>,
     pub(crate) pass: Pass<T>,

@@ -26,7 +26,8 @@ pub enum Claiming<T: Drop> {
     Empty(Receiver<T>),
     /// A value is being sent, another end was first, or the lock is taken. Yield, and try again.
     Again(Receiver<T>),
-    /// [`Refused::Closed`]: no value can come any more, for ever. Or ends cannot be counted.
+    /// [`Refused::Closed`] says that no value can ever come again. [`Refused::Crowded`] says that the segments or their
+    /// ends cannot be counted.
     Refused(Receiver<T>, Refused),
 }
 
@@ -66,7 +67,7 @@ impl<T: Drop> Claimed<T> {
     ghost use Rattle.mb_channel.specs.Standing.{NoMore};
     ghost use Rattle.mb_channel.specs.Wakes.{Tells, wakes_of};
 
-    /// The place that it claimed.
+    /// The place that the receiver claimed.
     pub fn place(&self) -> Place
         ensures { result ≡ place_in self.now.half }
     {

@@ -20,11 +20,12 @@ pub struct Drawn<T: Drop> {
 
 /// What came of a draw.
 pub enum Drawing<T: Drop> {
-    /// The value counts as sent. Write it, and then mark its place.
+    /// The value counts as sent. [`Drawn::mark`] then puts it in its place.
     At(Drawn<T>),
     /// Another sender was first, the lock is taken, or the next segment is not there yet. Yield, and try again.
     Again(Sender<T>),
-    /// No place is drawn. [`Refused::Closed`] is told only if the list is closed.
+    /// No place is drawn. [`Refused::Closed`] is told only if the list is closed. [`Refused::NoMemory`] says that there is
+    /// no memory for the next segment, [`Refused::Crowded`] that the segments or their ends cannot be counted.
     Refused(Sender<T>, Refused),
 }
 
@@ -34,7 +35,8 @@ impl<T: Drop> Sender<T> {
     ghost use Rattle.mb_channel.specs.Wakes.{Tells, wakes_of};
 
     /// Tries to draw a place for a value, behind all that the sender sent before. The value counts as sent from then on.
-    /// It makes a few accesses, and wakes nobody.
+    /// If the last segment is full, the call may add the next one, which takes memory. It makes a few accesses, and wakes
+    /// nobody.
     pub fn draw(self, value: &T) -> Drawing<T>
         ensures answer { OfDrawing result value.now (stand_of self.end) }
         ensures wakes { Tells 0 (wakes_of self.end) (after_drawing result) }
@@ -63,15 +65,15 @@ impl<T: Drop> Drawn<T> {
     ghost use Rattle.mb_channel.specs.Standing.{NoMore, stand_with};
     ghost use Rattle.mb_channel.specs.Wakes.{Tells, wakes_of, wakes_with};
 
-    /// The place that it drew.
+    /// The place that the sender drew.
     pub fn place(&self) -> Place
         ensures { result ≡ place_in self.now.half }
     {
         self.half.place()
     }
 
-    /// Writes the value, and marks the place: a receiver can claim it from then on. The sender may then have to wake
-    /// receivers, as after [`Sender::try_send`].
+    /// Writes the value, and marks the place: a receiver can claim it from then on. If receivers may have to be woken, the
+    /// sender comes back as an [`Owing`], which pays for that.
     pub fn mark(self, value: T) -> Result<Sender<T>, Owing<T>>
         requires same { IsDrawnFor self value }
         ensures sent { IfOk result (λ s. NoMore (stand_half self.half) (stand_of s.end)) }

@@ -87,8 +87,8 @@ pub fn sample_spent()
         → Fits hs all views id (record spent_view { sends = 1 }) → ⊥ }
 {}
 
-/// The end. Two ends in two segments are admitted. Refused: a pass that is out once the last end has left, an account
-/// in a hub that no end's visits have, a second segment behind one that is not over, and an end given back twice.
+/// The end. Two ends in two segments are admitted. Refused: a pass that is out once the last end has left, and an account
+/// in a hub that no end's visits have. A second segment behind one that is not over, and an end given back twice.
 pub fn sample_whole()
     ensures two { (h g : Home ℕ) → IsOver h → came_back h ≡ one_got ∷ two_sent ∷ []
         → came_back g ≡ one_sent ∷ [] → out_of h ≡ 0 → out_of g ≡ 0

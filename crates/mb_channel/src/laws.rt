@@ -20,7 +20,8 @@ ghost use Rattle.mb_channel.specs.Deeds.{Deed, IsUpTo, OneMore};
 ghost use Rattle.mb_channel.specs.Told.{AllTell, KeepsOrder, index};
 ghost use Rattle.mb_channel.specs.declared.place.Place.{Place};
 
-/// At each moment: if each segment keeps its own rule, and they follow each other in turn, the channel's points hold.
+/// At each moment: let each segment keep its own rule, let them follow each other in turn, and let what is said of the
+/// channel's end be true. Then the channel's points hold.
 pub fn moments_keep_the_theorem<T>()
     ensures moment { (m : Moment T) → EachKeeps m.segments → InTurn m.segments → KeepsEnd m
         → EachMoment m }
@@ -28,8 +29,8 @@ pub fn moments_keep_the_theorem<T>()
         → TakenInTurn (life m) }
 {}
 
-/// Of a state of the list, and of a state of each segment: if only those that may receive in a segment take values there
-/// or sleep, the channel's points hold of this moment. The moment tells what an end was told, and where it is.
+/// Of a state of the list, and of a state of each segment: let only those that may receive in a segment take values there
+/// or sleep. Then the channel's points hold of this moment. The moment tells what an end was told, and where it is.
 pub fn states_keep_the_theorem<T: Drop>()
     ensures moment { (c : ListState T) (k : Keeps c) (now : ℕ → SegmentState T)
         (a : AreStates now k.homes)

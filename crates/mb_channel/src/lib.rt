@@ -7,6 +7,8 @@
 //! - [`Sender::close`] and [`Receiver::close`] close the channel. So does the end of the last sender.
 //! - [`Sender::try_send`] and [`Receiver::poll_receive`] never wait either, and leave it to the caller to wake and to
 //!   sleep. Whoever owes a wake is [`Owing`] or [`Leaving`], and whoever sleeps is [`Asleep`].
+//! - [`Sender::draw`] and [`Drawn::mark`] are the two halves of a send, and [`Receiver::claim`] and [`Claimed::read`]
+//!   those of a receive. None of them waits.
 //! - [`Sender::known`] and [`Receiver::known`] say how far an end knows. [`Sender::learn`] and [`Receiver::learn`] tell
 //!   that to another end. If they answer `true`, its later calls stand behind that [`Place`].
 //! - [`Receiver::give_back`] gives a value back to the end of the one order.
@@ -60,6 +62,7 @@ mod tried;
 mod try_sends;
 mod view;
 mod visits;
+pub mod work_samples;
 
 pub use answers::{Came, Retired};
 pub use channel::Refused;

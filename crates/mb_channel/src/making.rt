@@ -45,6 +45,8 @@ pub(crate) fn end_at<T: Drop>(
 }
 
 impl<T: Drop> End<T> {
+    ghost use Rattle.mb_channel.specs.declared.channel.Refused.TheVariants.{NoMemory};
+
     /// Counts for one end more, if the ends still count for as many as were seen. It tells for how many they did.
     fn count(&mut self, seen: u64) -> u64
         requires seen { seen < 18446744073709551615 }
@@ -131,6 +133,7 @@ impl<T: Drop> End<T> {
             ⊎ (view_of self.new ≡ saw_none (view_of self.old))) }
         ensures none { IfErr result (λ why.
             IfClosed why (view_of self.new ≡ saw_none (view_of self.old))) }
+        ensures memory { IfErr result (λ why. why ≢ NoMemory) }
     {
         let mut seen: u64 = 1;
         for _ in 0..u64::MAX {
@@ -160,6 +163,7 @@ impl<T: Drop> End<T> {
             → IsBehind self.new × IfOk result (λ s. IsBehind s.end) }
         ensures new { IfOk result (λ s. AreOfOneChannel self.old s.end × IsFresh s.end) }
         ensures none { IfErr result (λ why. IfClosed why ((view_of self.new).alone ≡ true)) }
+        ensures memory { IfErr result (λ why. why ≢ NoMemory) }
     {
         let Some(list) = self.count_one() else {
             return Err(Refused::Crowded);

@@ -38,13 +38,14 @@ pub enum Polled<T: Drop> {
     TookOwing(Leaving<T>, T),
     /// No value is there. Let the thread sleep ([`Asleep::sleep`]), and then call [`Asleep::wake_up`].
     Sleeps(Asleep<T>),
-    /// Nothing is known: a value is being sent, another end was first, the lock is taken, or the receiver was woken for a
-    /// value that another took, or has still to come to the next segment, for which there may be no memory. Yield, and try
-    /// again.
+    /// Nothing is known. A value is being sent, another end was first, or the lock is taken. Or the receiver was woken for
+    /// a value that another took. Or it has still to come to the next segment, for which there may be no memory. Yield,
+    /// and try again.
     Again(Receiver<T>),
     /// The same, and something is owed.
     Owes(Leaving<T>),
-    /// [`Refused::Closed`]: no value can come any more, for ever. Or ends cannot be counted.
+    /// [`Refused::Closed`] says that no value can ever come again. [`Refused::Crowded`] says that the segments or their
+    /// ends cannot be counted.
     Refused(Receiver<T>, Refused),
 }
 

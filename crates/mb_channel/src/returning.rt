@@ -1,7 +1,7 @@
 //! A receiver gives a value back to the channel, by a sender that it makes for that.
 ghost use Rattle.std.specs.Prelude.{◌≡◌, ◌⊎◌, false, true, IfErr, IsErrAnd, OnOk};
 ghost use Rattle.mb_channel.specs.declared.channel.Refused.TheVariants.{Closed};
-ghost use Rattle.mb_channel.specs.Answers.{IfClosed};
+ghost use Rattle.mb_channel.specs.Answers.{IfClosed, IfUnmade};
 ghost use Rattle.mb_channel.specs.Deeds.{IsUpTo, OneMore};
 ghost use Rattle.mb_channel.specs.Ends.{AreOfOneChannel, HasEnded, IsBehind, IsLater, IsSame, StaysTold};
 ghost use Rattle.mb_channel.specs.Ends.{given_to, got_by, knows, log_of, sent_by, stand_of, view_of};
@@ -74,6 +74,8 @@ impl<T: Drop> Receiver<T> {
         ensures closed { IfErr result (λ e. IfClosed e.why
             (((view_of self.new.end).alone ≡ true) ⊎ HasEnded self.new.end)) }
         ensures still { IsBehind self.old.end → IsErrAnd result (λ e. e.why ≡ Closed) }
+        ensures unmade { IfErr result (λ e. given_to self.new.end ≡ given_to self.old.end
+            → IfUnmade e.why (IsBehind self.old.end ⊎ ((view_of self.new.end).alone ≡ true))) }
     {
         if self.end.behind {
             let why = Refused::Closed;

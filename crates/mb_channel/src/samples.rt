@@ -21,9 +21,9 @@ ghost use Rattle.mb_channel.specs.Receives.{FoundNone, SawEmpty};
 ghost use Rattle.mb_channel.specs.Wakes.{Tells, wakes};
 ghost use Rattle.mb_channel.specs.declared.end.End.{End};
 
-/// Points 1 to 3. A life over two segments is admitted. Refused: values of one sender that stand in another order, a
-/// value that stands before one that its sender knew of, a value that two received, a take before one that its receiver
-/// knew of, a value that overtook another, one that its taker did not receive, and one that is left and not given back.
+/// Points 1 to 3. A life over two segments is admitted. Refused: values of one sender in another order, and a value before
+/// one that its sender knew of. A value that two received, and a take before one that its receiver knew of. A value that
+/// overtook another, one that its taker did not receive, and one that is left and not given back.
 pub fn sample_lives()
     ensures admitted { WholeLife two_segments two_and_two (11 ∷ []) }
     ensures swapped { WholeLife swapped_life one_sender (11 ∷ 10 ∷ []) → ⊥ }
@@ -67,8 +67,8 @@ pub fn sample_bounds()
 {}
 
 /// What laws ask of segments. Admitted: what the moments and lives above keep, and a sleeper beside a value for which the
-/// sender of the last position owes tokens to all. Refused: that it owes one wake alone, that nobody owes any, a segment
-/// visited past a value, "closed" told beside one, a value that overtook another, and a take that no end logs.
+/// sender of the last position owes tokens to all. Refused: that it owes one wake alone, and that nobody owes any. A
+/// segment visited past a value, and "closed" told beside one. A value that overtook another, and a take that no end logs.
 pub fn sample_segments()
     ensures kept { EachKeeps looked_for.segments × InTurn looked_for.segments × KeepsEnd ended }
     ensures last { EachKeeps last_drawn.segments × InTurn last_drawn.segments

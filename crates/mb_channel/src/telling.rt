@@ -67,8 +67,8 @@ impl<T: Drop> End<T> {
         Place { segment, number }
     }
 
-    /// Looks whether the end may go on: it is in no segment, or nothing more can be sent in its own, or, if `takes`, no
-    /// value can come there any more.
+    /// Looks whether the end may go on. It may if it is in no segment, or if nothing more can be sent in its own. If
+    /// `takes`, its own must be one where no value can come any more.
     fn may_go_on(&mut self, takes: bool) -> bool
         ensures chair { (self.new.chair ≡ self.old.chair) × (self.new.behind ≡ self.old.behind) }
         ensures still { NoMore (stand_of self.old) (stand_of self.new) }

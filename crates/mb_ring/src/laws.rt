@@ -138,11 +138,12 @@ pub fn one_cutter<T>()
         → (drawn_in s ≡ 0) × (IsCut s → ⊥) }
 {}
 
-/// Between any two steps: if a receiver sleeps without a token, no more values wait than there are tokens given to
-/// receivers, and looks and wakes owed for values. If a sender sleeps without a token and the ring is open, no more places
-/// are free than there are tokens given to senders, and looks and wakes owed for room. If no more will be drawn, and one
-/// sleeps in a list without a token, somebody still owes a token to each that sleeps there. Whoever owes or is in a list
-/// is a pass that is issued and not yet returned. A token that was given is in the word of its list until it is taken.
+/// Between any two steps: let a receiver sleep without a token. Then at most as many values wait as there are tokens
+/// given to receivers, plus looks and wakes owed for values. Let a sender sleep without a token while the ring is open.
+/// Then at most as many places are free as there are tokens given to senders, plus looks and wakes owed for room. If no
+/// more will be drawn, and one sleeps in a list without a token, somebody still owes a token to each that sleeps there.
+/// Whoever owes or is in a list is a pass that is issued and not yet returned. A token that was given is in the word of
+/// its list until it is taken.
 pub fn no_wake_up_is_lost<T>()
     ensures values { (s : RingState T) (k : Keeps s)
         → k.tokens Values < total (sleeping Values) s.views
