@@ -42,6 +42,7 @@ module _ {T : Type 0} where
       record {
         named = f.named;
         falls = f.falls;
+        names = f.names;
         near = f.near;
         inside = f.inside;
         takes = f.takes;
@@ -251,6 +252,7 @@ module _ {T : Type 0} where
         record {
           named = f.named;
           falls = f.falls;
+          names = f.names;
           near = subst (λ l. IsNear l v.at) now f.near;
           inside = λ q. subst (λ l. IsIn l v) now (f.inside q);
           takes = λ q. subst (λ l. IsNext l v.at) now (f.takes q);

@@ -148,6 +148,7 @@ module _ {T : Type 0} where
         record {
           named = f.named;
           falls = f.falls;
+          names = f.names;
           near = near_grows k.homes hs g me.0.at f.near;
           inside = λ is. in_grows k.homes hs g me.0 (f.inside is);
           takes = λ is. next_grows k.homes hs g me.0.at (f.takes is);

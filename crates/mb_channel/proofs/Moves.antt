@@ -169,6 +169,7 @@ module _ {T : Type 0} where
         (λ (t : (j ≢ id) × (get_elem? s.views j ≡ some u)). let f = k.fits j u t.1 in record {
           named = λ l. let x = f.named l in (x.0, x.1 ∙ sym (same j t.0));
           falls = f.falls;
+          names = f.names;
           near = near_grows k.homes hs grows u.at f.near;
           inside = λ is. in_grows k.homes hs grows u (f.inside is);
           takes = λ is. next_grows k.homes hs grows u.at (f.takes is);
@@ -249,6 +250,7 @@ module _ {T : Type 0} where
             record {
               named = f.named;
               falls = f.falls;
+              names = f.names;
               near = f.near;
               inside = f.inside;
               takes = f.takes;

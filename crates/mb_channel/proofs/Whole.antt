@@ -50,6 +50,7 @@ module _ {T : Type 0} where
     fits = λ id v at. subst (λ (z : Knows T). Fits [] [] (first_view ∷ []) id z) (sym (first_is id v at)) record {
       named = λ l. absurd (true≢false (sym l));
       falls = tt;
+      names = (tt, tt);
       near = inl refl;
       inside = λ l. absurd (true≢false (sym l));
       takes = λ _ j lt. absurd (omega arith);

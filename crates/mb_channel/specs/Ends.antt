@@ -25,7 +25,7 @@ abbrev pub got_by : {T : Type 0} → End T → List (Deed T)
 got_by e = log_in (λ a. a.got) (view_of e) (pass_there e.inside)
 
 abbrev pub log_of : {T : Type 0} → End T → Log T
-log_of e = record { number = (view_of e).number; sent = sent_by e; got = got_by e }
+log_of e = record { number = (view_of e).number; name = (view_of e).name; sent = sent_by e; got = got_by e }
 
 -- the logs of the ends that were given back to it
 abbrev pub given_to : {T : Type 0} → End T → List (Log T)
@@ -66,6 +66,7 @@ IsLater v w = (v.chair.me.0.found ≤ w.chair.me.0.found) × ((v.chair.me.0.at <
 pub record IsOne {T : Type 0} (v w : Standing T) : Type 0 where
   pub list : w.chair.table_id ≡ v.chair.table_id
   pub number : w.chair.me.0.number ≡ v.chair.me.0.number
+  pub name : w.chair.me.0.name ≡ v.chair.me.0.name
   pub ended : w.chair.me.0.ended ≡ v.chair.me.0.ended
   pub sends : w.chair.me.0.sends ≡ v.chair.me.0.sends
   pub receives : w.chair.me.0.receives ≡ v.chair.me.0.receives
@@ -78,6 +79,7 @@ IsSame old new = IsOne (stand_of old) (stand_of new)
 -- the view of an end that left its segment: the end is the same, and it counts for as many
 pub record IsLeft {T : Type 0} (old new : Knows T) : Type 0 where
   pub number : new.number ≡ old.number
+  pub name : new.name ≡ old.name
   pub ended : new.ended ≡ old.ended
   pub rights : new.rights ≡ old.rights
   pub sends : new.sends ≡ old.sends

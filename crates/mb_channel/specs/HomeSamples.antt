@@ -23,7 +23,7 @@ all_visits = made 0 (visit 1 one_sent) ∷ made 1 (visit 0 one_got) ∷ one_visi
 
 -- end 1 was in no segment
 abbrev pub idle_end : Past ℕ
-idle_end = record { number = 1; visits = [] }
+idle_end = record { number = 1; name = 0; visits = [] }
 
 -- the last end has left segment 1
 abbrev pub last_of_two : Knows ℕ
@@ -48,4 +48,4 @@ place k n = record { segment = k; number = n }
 
 -- end 1 sent 10, and did nothing else
 abbrev pub returner : Log ℕ
-returner = record { number = 1; sent = deed 1 (position 3 10) ∷ []; got = [] }
+returner = record { number = 1; name = 7; sent = deed 1 (position 3 10) ∷ []; got = [] }

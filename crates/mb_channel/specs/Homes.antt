@@ -8,31 +8,8 @@ use Rattle.atomic_table.specs.Table.{Allows, Me, State, Step, step}
 use Rattle.atomic_table.specs.declared.shared.Seat.{Seat}
 use Rattle.mb_channel.specs.Types.{Account, Arc, Global, Home, Homes, Knows, Pass, Past, Segment, View, Visit, arc_value}
 use Rattle.mb_channel.specs.Remembers.{Remembers}
+pub use Rattle.mb_channel.specs.Visits.{AllMade, AllPast, AreNamed, Falls, HasNames, Made, made_by, made_in}
 use Rattle.mb_segment.specs.Vocabulary.{IsWhole as SegmentIsWhole, hub_view, is_over, issued, new_hub, took_back}
-
--- ---- the visits of all ends, the newest first
-pub record Made (T : Type 0) : Type 0 where
-  pub by : ℕ
-  pub visit : Visit T
-
--- of one end
-abbrev pub made_by : {T : Type 0} → ℕ → List (Made T) → List (Visit T)
-made_by n [] = []
-made_by n (m ∷ ms) = if nat_eq m.by n then m.visit ∷ made_by n ms else made_by n ms
-
--- in one segment
-abbrev pub made_in : {T : Type 0} → ℕ → List (Made T) → List (Account T)
-made_in k [] = []
-made_in k (m ∷ ms) = if nat_eq m.visit.segment k then m.visit.account ∷ made_in k ms else made_in k ms
-
-abbrev pub AllMade : {T : Type 0} → (Made T → Type 0) → List (Made T) → Type 0
-AllMade P [] = Unit {0}
-AllMade P (m ∷ ms) = P m × AllMade P ms
-
--- the segments of the visits fall, from below b on: so each end visits a segment once
-abbrev pub Falls : {T : Type 0} → ℕ → List (Visit T) → Type 0
-Falls b [] = Unit {0}
-Falls b (v ∷ vs) = (v.segment < b) × Falls v.segment vs
 
 -- ---- the segments
 -- what the segment's hub knows of the passes that came back, and whether one of them saw that no value can come any more
@@ -106,6 +83,7 @@ first_view = record {
   receives = 1;
   live = false;
   number = 0;
+  name = 0;
   visits = [];
   gave = 0;
   inside = false;
@@ -187,10 +165,6 @@ abbrev pub made_count : {T : Type 0} → (ℕ → ℕ) → List (Made T) → ℕ
 made_count f [] = 0
 made_count f (m ∷ ms) = f m.by + made_count f ms
 
-abbrev pub AllPast : {T : Type 0} → (Past T → Type 0) → List (Past T) → Type 0
-AllPast P [] = Unit {0}
-AllPast P (p ∷ ps) = P p × AllPast P ps
-
 -- the end was given back
 abbrev pub IsSpent : {T : Type 0} → List (Knows T) → ℕ → Type 0
 IsSpent {T} views n = (w : Knows T) × (get_elem? views n ≡ some w) × (w.rights ≡ 0)
@@ -211,6 +185,7 @@ pub record Fits {T : Type 0} (hs : List (Home T)) (all : List (Made T)) (views :
     (v : Knows T) : Type 0 where
   pub named : v.live ≡ true → (v.number ≡ id) × (v.visits ≡ made_by id all)
   pub falls : Falls v.at v.visits
+  pub names : HasNames v
   pub near : IsNear hs v.at
   pub inside : v.inside ≡ true → IsIn hs v
   pub takes : v.takes ≡ true → IsNext hs v.at
@@ -263,7 +238,7 @@ abbrev pub unlocked : {T : Type 0} → Knows T → Knows T
 unlocked v = record v { holds = false; before = []; is_open = false; may_add = false }
 
 abbrev pub past_of : {T : Type 0} → Knows T → Past T
-past_of v = record { number = v.number; visits = v.visits }
+past_of v = record { number = v.number; name = v.name; visits = v.visits }
 
 abbrev pub told_or : Option ℕ → Option ℕ → Option ℕ
 told_or None b = b

@@ -21,6 +21,7 @@ stand_kept k = record { chair = k.chair; pass = pass_at k.busy }
 abbrev pub log_kept : {T : Type 0} → KeptSender T → Log T
 log_kept k = record {
   number = k.chair.me.0.number;
+  name = k.chair.me.0.name;
   sent = sent_in (stand_kept k);
   got = got_in (stand_kept k);
 }

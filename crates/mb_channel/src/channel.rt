@@ -48,7 +48,7 @@ impl<T: Drop> End<T> {
         if at == usize::MAX {
             return Err(Refused::Crowded);
         }
-        match self.list.come(&mut self.chair, at, takes, adds) {
+        match self.list.come(&mut self.chair, self.name, at, takes, adds) {
             Came::Here(segment, pass) => {
                 let pass = pass.rest();
                 self.inside = Some(Inside { segment, pass });

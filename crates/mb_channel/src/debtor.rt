@@ -15,6 +15,7 @@ pub struct Debtor<T: Drop> {
     pub(crate) chair: Chair<T>,
     pub(crate) at: usize,
     pub(crate) rights: u64,
+    pub(crate) name: u32,
     pub(crate) busy: Busy<T>,
     pub(crate) over: bool,
     ghost same: { chair.table_id ≡ (arc_value list).table.shared.table_id },
@@ -22,6 +23,8 @@ pub struct Debtor<T: Drop> {
     ghost here: { (view_in chair).at ≡ at },
     ghost counts: { 0 < (view_in chair).rights },
     ghost counted: { rights < 18446744073709551615 → (view_in chair).rights ≡ rights },
+    ghost name: { (view_in chair).name ≡ name },
+    ghost named: { busy.pass.seat.me.0.account.name ≡ name },
     ghost inside: { (view_in chair).inside ≡ true },
     ghost place: { (view_in chair).place ≡ Some busy.segment },
     ghost orderly: { (view_in chair).orderly ≡ true },
@@ -56,7 +59,7 @@ impl<T: Drop> End<T> {
         if self.inside.is_none() {
             return Step::Over(self, value);
         }
-        let (at, rights, over) = (self.at, self.rights, self.over);
+        let (at, rights, name, over) = (self.at, self.rights, self.name, self.over);
         let End {
             list,
             chair,
@@ -74,6 +77,7 @@ impl<T: Drop> End<T> {
                     chair,
                     at,
                     rights,
+                    name,
                     busy,
                     over,
                 });
@@ -84,6 +88,7 @@ impl<T: Drop> End<T> {
             chair,
             at,
             rights,
+            name,
             inside: Some(inside),
             over,
             behind: false,
@@ -113,6 +118,7 @@ impl<T: Drop> Debtor<T> {
             chair,
             at,
             rights,
+            name,
             busy,
             over,
         } = self;
@@ -121,6 +127,7 @@ impl<T: Drop> Debtor<T> {
             chair,
             at,
             rights,
+            name,
             inside: Some(busy.pay(rt)),
             over,
             behind: false,
@@ -141,6 +148,7 @@ impl<T: Drop> Debtor<T> {
             chair,
             at,
             rights,
+            name,
             busy,
             over,
         } = self;
@@ -150,6 +158,7 @@ impl<T: Drop> Debtor<T> {
                 chair,
                 at,
                 rights,
+                name,
                 inside: Some(inside),
                 over,
                 behind: false,
@@ -159,6 +168,7 @@ impl<T: Drop> Debtor<T> {
                 chair,
                 at,
                 rights,
+                name,
                 busy,
                 over,
             }),

@@ -2,7 +2,8 @@
 ghost use Rattle.std.specs.Prelude.{◌≡◌, ◌<◌, [], true, false, is_some};
 ghost use Rattle.std.specs.Arc.{arc_value};
 ghost use Rattle.mb_channel.specs.Homes.{IsReady, view_in};
-ghost use Rattle.mb_channel.specs.Inside.{got_there, share_in, told_there};
+ghost use Rattle.mb_channel.specs.Inside.{got_there, pass_there, share_in, told_there};
+ghost use Rattle.mb_channel.specs.Visits.{IsNamed};
 ghost use Rattle.mb_channel.specs.Closing.{KnowsEnd};
 
 use crate::inside::Inside;
@@ -22,6 +23,8 @@ pub struct End<T: Drop> {
     pub(crate) at: usize,
     /// For how many ends it counts, if that is below 2^64 - 1.
     pub(crate) rights: u64,
+    /// The name under which it sends and receives, or 0.
+    pub(crate) name: u32,
     pub(crate) inside: Option<Inside<T>>,
     /// Whether it was told that no value can come any more in the segment where it is.
     pub(crate) over: bool,
@@ -32,6 +35,8 @@ pub struct End<T: Drop> {
     ghost here: { (view_in chair).at ≡ at },
     ghost counts: { 0 < (view_in chair).rights },
     ghost counted: { rights < 18446744073709551615 → (view_in chair).rights ≡ rights },
+    ghost name: { (view_in chair).name ≡ name },
+    ghost named: { IsNamed name (pass_there inside) },
     ghost inside_: { (view_in chair).inside ≡ is_some inside },
     ghost place: { is_some inside ≡ true → (view_in chair).place ≡ share_in inside },
     ghost orderly: { (view_in chair).orderly ≡ true },

@@ -15,6 +15,7 @@ pub struct Halfway<T: Drop> {
     pub(crate) chair: Chair<T>,
     pub(crate) at: usize,
     pub(crate) rights: u64,
+    pub(crate) name: u32,
     pub(crate) begun: Begun<T>,
     pub(crate) over: bool,
     ghost same: { chair.table_id ≡ (arc_value list).table.shared.table_id },
@@ -22,6 +23,8 @@ pub struct Halfway<T: Drop> {
     ghost here: { (view_in chair).at ≡ at },
     ghost counts: { 0 < (view_in chair).rights },
     ghost counted: { rights < 18446744073709551615 → (view_in chair).rights ≡ rights },
+    ghost name: { (view_in chair).name ≡ name },
+    ghost named: { begun.pass.seat.me.0.account.name ≡ name },
     ghost inside: { (view_in chair).inside ≡ true },
     ghost place: { (view_in chair).place ≡ Some begun.segment },
     ghost orderly: { (view_in chair).orderly ≡ true },
@@ -52,7 +55,7 @@ impl<T: Drop> End<T> {
         if self.inside.is_none() {
             return Err((self, Miss::Over));
         }
-        let (at, rights, over) = (self.at, self.rights, self.over);
+        let (at, rights, name, over) = (self.at, self.rights, self.name, self.over);
         let End {
             list,
             chair,
@@ -66,6 +69,7 @@ impl<T: Drop> End<T> {
                 chair,
                 at,
                 rights,
+                name,
                 begun,
                 over,
             }),
@@ -75,6 +79,7 @@ impl<T: Drop> End<T> {
                     chair,
                     at,
                     rights,
+                    name,
                     inside: Some(inside),
                     over,
                     behind: false,
@@ -99,7 +104,7 @@ impl<T: Drop> End<T> {
         if self.inside.is_none() {
             return Err((self, Miss::Over));
         }
-        let (at, rights, over) = (self.at, self.rights, self.over);
+        let (at, rights, name, over) = (self.at, self.rights, self.name, self.over);
         let End {
             list,
             chair,
@@ -113,6 +118,7 @@ impl<T: Drop> End<T> {
                 chair,
                 at,
                 rights,
+                name,
                 begun,
                 over,
             }),
@@ -123,6 +129,7 @@ impl<T: Drop> End<T> {
                     chair,
                     at,
                     rights,
+                    name,
                     inside: Some(inside),
                     over,
                     behind: false,
@@ -163,6 +170,7 @@ impl<T: Drop> Halfway<T> {
             chair,
             at,
             rights,
+            name,
             begun,
             over,
         } = self;
@@ -171,6 +179,7 @@ impl<T: Drop> Halfway<T> {
             chair,
             at,
             rights,
+            name,
             busy: begun.mark(value),
             over,
         }
@@ -190,6 +199,7 @@ impl<T: Drop> Halfway<T> {
             chair,
             at,
             rights,
+            name,
             begun,
             over,
         } = self;
@@ -201,6 +211,7 @@ impl<T: Drop> Halfway<T> {
                 chair,
                 at,
                 rights,
+                name,
                 inside: Some(inside),
                 over,
                 behind: false,

@@ -126,11 +126,12 @@ pub fn sample_places()
 /// that none is given back by an end that did nothing. Refused: a place of which the receiver knew, no further end, and
 /// that none is given back by an end that sent one.
 pub fn sample_returned()
-    ensures next { OneReturned 10 (place 1 3) [] (returner ∷ []) }
-    ensures idle { NoneReturned [] (record returner { sent = [] } ∷ []) }
-    ensures known { OneReturned 10 (place 1 4) [] (returner ∷ []) → ⊥ }
-    ensures lost { OneReturned 10 (place 1 3) (returner ∷ []) (returner ∷ []) → ⊥ }
-    ensures sent { NoneReturned [] (returner ∷ []) → ⊥ }
+    ensures next { OneReturned 10 7 (place 1 3) [] (returner ∷ []) }
+    ensures idle { NoneReturned 7 [] (record returner { sent = [] } ∷ []) }
+    ensures known { OneReturned 10 7 (place 1 4) [] (returner ∷ []) → ⊥ }
+    ensures renamed { OneReturned 10 8 (place 1 3) [] (returner ∷ []) → ⊥ }
+    ensures lost { OneReturned 10 7 (place 1 3) (returner ∷ []) (returner ∷ []) → ⊥ }
+    ensures sent { NoneReturned 7 [] (returner ∷ []) → ⊥ }
 {}
 
 /// The place of a call, in the one order. Admitted: the first of two calls in segment 0. Refused: a call in a segment

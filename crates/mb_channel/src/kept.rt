@@ -3,7 +3,8 @@ ghost use Rattle.std.specs.Prelude.{◌≡◌, ◌<◌, [], true, false, is_some
 ghost use Rattle.std.specs.Arc.{arc_value};
 ghost use Rattle.mb_channel.specs.Homes.{IsReady, view_in};
 ghost use Rattle.mb_channel.specs.Closing.{KnowsEnd};
-ghost use Rattle.mb_channel.specs.Places.{got_at, share_at, told_at};
+ghost use Rattle.mb_channel.specs.Places.{got_at, pass_at, share_at, told_at};
+ghost use Rattle.mb_channel.specs.Visits.{IsNamed};
 
 use crate::busy::{Busy, Debt};
 use crate::debtor::Debtor;
@@ -20,6 +21,7 @@ pub struct KeptSender<T: Drop> {
     pub(crate) chair: Chair<T>,
     pub(crate) at: usize,
     pub(crate) rights: u64,
+    pub(crate) name: u32,
     pub(crate) busy: Option<Busy<T>>,
     pub(crate) over: bool,
     pub(crate) behind: bool,
@@ -28,6 +30,8 @@ pub struct KeptSender<T: Drop> {
     ghost here: { (view_in chair).at ≡ at },
     ghost counts: { 0 < (view_in chair).rights },
     ghost counted: { rights < 18446744073709551615 → (view_in chair).rights ≡ rights },
+    ghost name: { (view_in chair).name ≡ name },
+    ghost named: { IsNamed name (pass_at busy) },
     ghost inside: { (view_in chair).inside ≡ is_some busy },
     ghost place: { is_some busy ≡ true → (view_in chair).place ≡ share_at busy },
     ghost orderly: { (view_in chair).orderly ≡ true },
@@ -76,6 +80,7 @@ impl<T: Drop> Sender<T> {
             chair,
             at,
             rights,
+            name,
             inside,
             over,
             behind,
@@ -89,6 +94,7 @@ impl<T: Drop> Sender<T> {
             chair,
             at,
             rights,
+            name,
             busy,
             over,
             behind,
@@ -112,6 +118,7 @@ impl<T: Drop> Owing<T> {
             chair,
             at,
             rights,
+            name,
             busy,
             over,
         } = debtor;
@@ -120,6 +127,7 @@ impl<T: Drop> Owing<T> {
             chair,
             at,
             rights,
+            name,
             busy: Some(busy),
             over,
             behind: false,
@@ -189,6 +197,7 @@ impl<T: Drop> KeptSender<T> {
             chair,
             at,
             rights,
+            name,
             busy,
             over,
             behind,
@@ -199,6 +208,7 @@ impl<T: Drop> KeptSender<T> {
                 chair,
                 at,
                 rights,
+                name,
                 inside: None,
                 over,
                 behind,
@@ -212,6 +222,7 @@ impl<T: Drop> KeptSender<T> {
                     chair,
                     at,
                     rights,
+                    name,
                     inside: Some(inside),
                     over,
                     behind,
@@ -232,6 +243,7 @@ impl<T: Drop> KeptSender<T> {
             chair,
             at,
             rights,
+            name,
             busy,
             over,
             behind: _,
@@ -243,6 +255,7 @@ impl<T: Drop> KeptSender<T> {
                 chair,
                 at,
                 rights,
+                name,
                 busy,
                 over,
             },
@@ -256,6 +269,7 @@ impl<T: Drop> KeptSender<T> {
             chair,
             at: _,
             rights: _,
+            name: _,
             busy,
             over: _,
             behind: _,

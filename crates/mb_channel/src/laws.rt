@@ -90,7 +90,8 @@ pub fn told_comes_later<T: Drop>()
         → KeepsOrder hs (record { place = a.place; value = x })
         → index hs a.place < index hs b.place }
     ensures returned { (x y : T) (k l m : Place) (bs cs : List (Deed T)) (ks ls : List (Log T))
-        (hs : List (Home T)) (a : OneMore x k l bs cs) (b : OneReturned y m ks ls) → IsUpTo l m
+        (hs : List (Home T)) (n : ℕ) (a : OneMore x k l bs cs) (b : OneReturned y n m ks ls)
+        → IsUpTo l m
         → KeepsOrder hs (record { place = a.place; value = x })
         → index hs a.place < index hs b.place }
 {}

@@ -1,8 +1,9 @@
 //! Passes of the segments in the list: the hubs issue them and take them back.
 ghost use Rattle.std.specs.Prelude.{◌≡◌, ◌<◌, ◌≤◌, ◌-◌, length, true, IfOk, IfErr, IfSome, OnErr, IfNone, ◌++◌, ◌∷◌, [], List};
 ghost use Rattle.mb_segment.specs.Seats.{view_in as pass_view};
-ghost use Rattle.mb_segment.specs.Vocabulary.{HasLeft, IsFree, IsWhole as SegmentIsWhole, blank};
+ghost use Rattle.mb_segment.specs.Vocabulary.{HasLeft, IsFree, IsWhole as SegmentIsWhole};
 ghost use Rattle.mb_channel.specs.Homes.{At, Changes, HasIssued, HasTakenBack, IsDone, IsFreed, IsNew, Stands, came_back, out_of};
+ghost use Rattle.mb_channel.specs.Visits.{fresh_pass};
 ghost use Rattle.mb_channel.specs.Tallies.{GoesOnTo};
 ghost use Rattle.mb_channel.specs.declared.home.Home.{Home};
 
@@ -47,16 +48,16 @@ impl<T: Drop> Home<T> {
         self.done
     }
 
-    /// Issues a pass of the segment. It is `None` if so many are out that they cannot be counted.
-    fn issue(&mut self) -> Option<(Shared<T>, Pass<T>)>
+    /// Issues a pass of the segment, of this name. It is `None` if so many are out that they cannot be counted.
+    fn issue(&mut self, name: u32) -> Option<(Shared<T>, Pass<T>)>
         ensures home { IfSome result (λ r. HasIssued self.old self.new r.0 r.1) }
-        ensures pass { IfSome result (λ r. (pass_view r.1 ≡ blank) × IsFree r.1) }
+        ensures pass { IfSome result (λ r. (pass_view r.1 ≡ fresh_pass name) × IsFree r.1) }
         ensures none { IfNone result (self.new ≡ self.old) }
     {
         let out = self.out.checked_add(1)?;
         let segment = Arc::try_clone(&self.segment).ok()?;
         self.out = out;
-        Some((segment, self.segment.issue(&mut self.hub)))
+        Some((segment, self.segment.issue(&mut self.hub, name)))
     }
 
     /// Ends the segment, of which no pass is out, and gives out what is left there. It comes back if an end still has a
@@ -143,15 +144,15 @@ impl<T: Drop> Homes<T> {
         self.first.checked_add(self.list.len().saturating_sub(1))
     }
 
-    /// The segment at this place of the list issues a pass.
-    pub(crate) fn issue(&mut self, at: usize) -> Option<(Shared<T>, Pass<T>)>
+    /// The segment at this place of the list issues a pass of this name.
+    pub(crate) fn issue(&mut self, at: usize, name: u32) -> Option<(Shared<T>, Pass<T>)>
         requires there { at < length self.old.list.items }
         ensures some { IfSome result (λ r. Changes self.old.list.items self.new.list.items at
-            (λ h g. HasIssued h g r.0 r.1) × (pass_view r.1 ≡ blank) × IsFree r.1) }
+            (λ h g. HasIssued h g r.0 r.1) × (pass_view r.1 ≡ fresh_pass name) × IsFree r.1) }
         ensures none { IfNone result (self.new.list.items ≡ self.old.list.items) }
         ensures first { self.new.first ≡ self.old.first }
     {
-        self.list[at].issue()
+        self.list[at].issue(name)
     }
 
     /// One more segment, of this many positions, behind the others.

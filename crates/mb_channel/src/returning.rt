@@ -54,8 +54,8 @@ impl<T: Drop> Sender<T> {
 }
 
 impl<T: Drop> Receiver<T> {
-    /// Gives a value back, as if a new sender had sent it. It stands behind all that this receiver received, and a
-    /// receiver is woken for it. This receiver makes that sender, and takes it back.
+    /// Gives a value back, as if a new sender of the same name had sent it. It stands behind all that this receiver
+    /// received, and a receiver is woken for it. This receiver makes that sender, and takes it back.
     ///
     /// The error gives the value back. [`Refused::Closed`] is told only if the channel is closed or no sender is left. It
     /// is [`Refused::NoMemory`] if the allocator refused the memory for the next segment, and [`Refused::Crowded`] if
@@ -67,10 +67,11 @@ impl<T: Drop> Receiver<T> {
         ensures told { StaysTold (view_of self.old.end) (view_of self.new.end) }
         ensures later { IsLater (stand_of self.old.end) (stand_of self.new.end) }
         ensures behind { IsBehind self.old.end → IsBehind self.new.end }
-        ensures sent { OnOk result (OneReturned value (knows true (stand_of self.old.end))
-            (given_to self.old.end) (given_to self.new.end)) }
+        ensures sent { OnOk result (OneReturned value (view_of self.old.end).name
+            (knows true (stand_of self.old.end)) (given_to self.old.end) (given_to self.new.end)) }
         ensures back { IfErr result (λ e. (e.value ≡ value)
-            × NoneReturned (given_to self.old.end) (given_to self.new.end)) }
+            × NoneReturned (view_of self.old.end).name (given_to self.old.end)
+            (given_to self.new.end)) }
         ensures closed { IfErr result (λ e. IfClosed e.why
             (((view_of self.new.end).alone ≡ true) ⊎ HasEnded self.new.end)) }
         ensures still { IsBehind self.old.end → IsErrAnd result (λ e. e.why ≡ Closed) }
@@ -80,7 +81,7 @@ impl<T: Drop> Receiver<T> {
             return Err(NotSent { value, why });
         }
         let place = self.known();
-        let mut sender = match self.end.new_sender() {
+        let mut sender = match self.end.new_sender(self.end.name) {
             Ok(sender) => sender,
             Err(why) => return Err(NotSent { value, why }),
         };

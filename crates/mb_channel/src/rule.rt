@@ -83,12 +83,26 @@ impl<T: Drop, N: Length> Play<Homes<T>, Knows<T>> for GivesLength<N> {
     ghost then = { gives_length N.told };
 }
 
-pub struct GetsNumber;
+/// The name of a new end. A proof picks it.
+pub trait Name {
+    ghost use Rattle.std.specs.Prelude.{ℕ};
 
-impl<T: Drop> Play<Homes<T>, Knows<T>> for GetsNumber {
+    ghost name: { ℕ };
+}
+
+// Without a pick it has none.
+impl Name for Brand {
+    ghost name = { 0 };
+}
+
+pub struct GetsNumber<N> {
+    of: PhantomData<N>,
+}
+
+impl<T: Drop, N: Name> Play<Homes<T>, Knows<T>> for GetsNumber<N> {
     ghost use Rattle.mb_channel.specs.Tallies.{gets_number};
 
-    ghost then = { gets_number };
+    ghost then = { gets_number N.name };
 }
 
 pub struct Counts;

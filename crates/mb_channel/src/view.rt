@@ -9,9 +9,10 @@ pub struct Visit<T> {
     pub account: Account<T>,
 }
 
-/// An end that was given back: its number and its visits, the newest first.
+/// An end that was given back: its number, its name and its visits, the newest first.
 pub struct Past<T> {
     pub number: u64,
+    pub name: u64,
     pub visits: LinkedList<Visit<T>>,
 }
 
@@ -23,6 +24,8 @@ pub struct Knows<T: Drop> {
     /// Whether it has a number.
     pub live: bool,
     pub number: u64,
+    /// The name that its maker gave it, or 0.
+    pub name: u64,
     /// Its visits, the newest first.
     pub visits: LinkedList<Visit<T>>,
     /// How many tokens it gave in the segments that it left.

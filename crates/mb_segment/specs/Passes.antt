@@ -47,7 +47,7 @@ abbrev pub blind : Sight
 blind = record { low = 0; ripe = None; full = false; cut = false; empty = 0; found = 0; walk = [] }
 
 abbrev pub nothing_done : {T : Type 0} → Account T
-nothing_done = record { sent = []; got = []; cut = false; sent_knew = []; got_knew = [] }
+nothing_done = record { name = 0; sent = []; got = []; cut = false; sent_knew = []; got_knew = [] }
 
 abbrev pub ignorant : Known
 ignorant = record { drawn = 0; taken = 0 }

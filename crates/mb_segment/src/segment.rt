@@ -60,7 +60,7 @@ impl<T: Drop, A: Allocator + Drop> Segment<T, A> {
     }
 
     /// A pass that did nothing.
-    pub fn issue(&self, hub: &mut Hub<T>) -> Pass<T>
+    pub fn issue(&self, hub: &mut Hub<T>, name: u32) -> Pass<T>
         requires segment { hub.old.seat.table_id ≡ self.now.table.shared.table_id }
         requires hub { (hub_view hub.old).role ≡ Issuer }
         ensures segment { hub.new.seat.table_id ≡ hub.old.seat.table_id }
@@ -68,6 +68,7 @@ impl<T: Drop, A: Allocator + Drop> Segment<T, A> {
         ensures pass { (result.seat.table_id ≡ hub.old.seat.table_id) × (view_in result ≡ blank)
             × IsFree result }
     {
+        let _ = name;
         Pass {
             seat: self.table.shared.split_seat::<Passes>(&mut hub.seat),
         }

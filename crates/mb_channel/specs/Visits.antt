@@ -1,0 +1,50 @@
+-- The visits of ends to segments, and the names under which they did them.
+use Rattle.std.specs.Prelude.{ℕ, ◌≡◌, ◌<◌, nat_eq, if◌then◌else◌, List, [], ◌∷◌, Option, Some, None}
+use Rattle.mb_segment.specs.Vocabulary.{blank}
+use Rattle.mb_channel.specs.Types.{Account, Knows, Past, View, Visit}
+
+-- ---- the visits of all ends, the newest first
+pub record Made (T : Type 0) : Type 0 where
+  pub by : ℕ
+  pub visit : Visit T
+
+-- of one end
+abbrev pub made_by : {T : Type 0} → ℕ → List (Made T) → List (Visit T)
+made_by n [] = []
+made_by n (m ∷ ms) = if nat_eq m.by n then m.visit ∷ made_by n ms else made_by n ms
+
+-- in one segment
+abbrev pub made_in : {T : Type 0} → ℕ → List (Made T) → List (Account T)
+made_in k [] = []
+made_in k (m ∷ ms) = if nat_eq m.visit.segment k then m.visit.account ∷ made_in k ms else made_in k ms
+
+abbrev pub AllMade : {T : Type 0} → (Made T → Type 0) → List (Made T) → Type 0
+AllMade P [] = Unit {0}
+AllMade P (m ∷ ms) = P m × AllMade P ms
+
+-- the segments of the visits fall, from below b on: so each end visits a segment once
+abbrev pub Falls : {T : Type 0} → ℕ → List (Visit T) → Type 0
+Falls b [] = Unit {0}
+Falls b (v ∷ vs) = (v.segment < b) × Falls v.segment vs
+
+abbrev pub AllPast : {T : Type 0} → (Past T → Type 0) → List (Past T) → Type 0
+AllPast P [] = Unit {0}
+AllPast P (p ∷ ps) = P p × AllPast P ps
+
+-- ---- names
+abbrev pub fresh_pass : {T : Type 0} → ℕ → View T
+fresh_pass n = blank
+
+-- the pass, if there is one, has this name
+abbrev pub IsNamed : {T : Type 0} → ℕ → Option (View T) → Type 0
+IsNamed n None = Unit {0}
+IsNamed n (Some v) = v.account.name ≡ n
+
+-- all these visits were made under this name
+abbrev pub AreNamed : {T : Type 0} → ℕ → List (Visit T) → Type 0
+AreNamed n [] = Unit {0}
+AreNamed n (v ∷ vs) = (v.account.name ≡ n) × AreNamed n vs
+
+-- each visit that the end knows of was made under its end's name
+abbrev pub HasNames : {T : Type 0} → Knows T → Type 0
+HasNames v = AreNamed v.name v.visits × AllPast (λ p. AreNamed p.name p.visits) v.ended
