@@ -56,7 +56,7 @@ impl<T: Drop> Home<T> {
         let out = self.out.checked_add(1)?;
         let segment = Arc::try_clone(&self.segment).ok()?;
         self.out = out;
-        Some((segment, self.segment.issue(&mut self.hub)))
+        Some((segment, self.segment.issue(&mut self.hub, 0)))
     }
 
     /// Ends the segment, of which no pass is out, and gives out what is left there. It comes back if an end still has a

@@ -20,7 +20,7 @@ abbrev pub history : History ℕ
 history = record { claims = claim 1 10 2 ∷ []; rest = entry 1 11 ∷ []; cutter = Some 1 }
 
 abbrev pub account : List (Spot ℕ) → List (Spot ℕ) → Bool → Account ℕ
-account s g c = record { sent = s; got = g; cut = c; sent_knew = map (λ p. 0) s; got_knew = map (λ p. 0) g }
+account s g c = record { name = 0; sent = s; got = g; cut = c; sent_knew = map (λ p. 0) s; got_knew = map (λ p. 0) g }
 
 -- two positions in the wrong order
 abbrev pub falling : List (Spot ℕ)
