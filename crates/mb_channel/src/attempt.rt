@@ -33,7 +33,7 @@ impl<T: Drop> Inside<T> {
             Draw::Full => return Attempt::Over(rested(segment, pass), value),
             Draw::Closed => return Attempt::Over(rested(segment, pass), value),
         };
-        segment.mark(&mut pass, at, value);
+        segment.mark(&mut pass, at, value, 0);
         if at + 1 == segment.size() {
             return Attempt::Owes(Busy {
                 segment,

@@ -125,7 +125,7 @@ impl<T: Drop> Begun<T> {
             position,
             debt,
         } = self;
-        segment.mark(&mut pass, position, value);
+        segment.mark(&mut pass, position, value, 0);
         if debt != Debt::Token {
             return Busy {
                 segment,
@@ -159,7 +159,7 @@ impl<T: Drop> Begun<T> {
             position,
             debt: _,
         } = self;
-        let value = segment.read(&mut pass, position);
+        let value = segment.read(&mut pass, position, 0);
         (value, rested(segment, pass))
     }
 }

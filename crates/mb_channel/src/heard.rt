@@ -53,7 +53,7 @@ impl<T: Drop> Busy<T> {
         match self.segment.look(&mut self.pass) {
             Look::Ready(at) => {
                 if self.segment.claim(&mut self.pass, at) {
-                    Heard::Value(self.segment.read(&mut self.pass, at))
+                    Heard::Value(self.segment.read(&mut self.pass, at, 0))
                 } else {
                     Heard::Again
                 }
@@ -92,7 +92,7 @@ impl<T: Drop> Busy<T> {
                 if !self.segment.claim_listed(&mut self.pass, at) {
                     return Heard::Again;
                 }
-                let value = self.segment.read(&mut self.pass, at);
+                let value = self.segment.read(&mut self.pass, at, 0);
                 self.debt = Debt::Leave;
                 self.leave();
                 Heard::Value(value)
@@ -143,7 +143,7 @@ impl<T: Drop> Busy<T> {
                     return Heard::Again;
                 }
                 self.debt = Debt::Nothing;
-                Heard::Value(self.segment.read(&mut self.pass, at))
+                Heard::Value(self.segment.read(&mut self.pass, at, 0))
             }
             Look::Yield => Heard::Again,
             Look::Over => {

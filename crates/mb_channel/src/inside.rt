@@ -51,7 +51,7 @@ impl<T: Drop> Inside<T> {
     {
         let Inside { segment, pass } = self;
         let mut pass = pass.pass();
-        match segment.send(rt, &mut pass, value) {
+        match segment.send(rt, &mut pass, value, 0) {
             Ok(()) => (rested(segment, pass), Ok(())),
             Err(refused) => (rested(segment, pass), Err(value_in(refused))),
         }
@@ -81,7 +81,7 @@ impl<T: Drop> Inside<T> {
     {
         let Inside { segment, pass } = self;
         let mut pass = pass.pass();
-        let got = segment.receive(rt, &mut pass);
+        let got = segment.receive(rt, &mut pass, 0);
         (rested(segment, pass), got)
     }
 }
@@ -107,7 +107,7 @@ impl<T: Drop> Inside<T> {
     {
         let Inside { segment, pass } = self;
         let mut pass = pass.pass();
-        let received = segment.receive_by(rt, &mut pass, deadline);
+        let received = segment.receive_by(rt, &mut pass, deadline, 0);
         (rested(segment, pass), received)
     }
 
@@ -125,7 +125,7 @@ impl<T: Drop> Inside<T> {
         match segment.look(&mut pass) {
             Look::Ready(at) => {
                 if segment.claim(&mut pass, at) {
-                    let value = segment.read(&mut pass, at);
+                    let value = segment.read(&mut pass, at, 0);
                     (rested(segment, pass), Some(Tried::Value(value)))
                 } else {
                     (rested(segment, pass), Some(Tried::Again))

@@ -57,7 +57,11 @@ impl<T: Drop> Home<T> {
         let out = self.out.checked_add(1)?;
         let segment = Arc::try_clone(&self.segment).ok()?;
         self.out = out;
+<<<<<<< HEAD
         Some((segment, self.segment.issue(&mut self.hub, name)))
+=======
+        Some((segment, self.segment.issue(&mut self.hub, 0)))
+>>>>>>> 92136509
     }
 
     /// Ends the segment, of which no pass is out, and gives out what is left there. It comes back if an end still has a

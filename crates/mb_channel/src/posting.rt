@@ -34,7 +34,7 @@ impl<T: Drop> Busy<T> {
             Draw::Full => return Posted::Back(value),
             Draw::Closed => return Posted::Back(value),
         };
-        self.segment.mark(&mut self.pass, at, value);
+        self.segment.mark(&mut self.pass, at, value, 0);
         if at + 1 == self.segment.size() {
             self.debt = Debt::Tokens;
             return Posted::Owes;

@@ -11,7 +11,7 @@ use Rattle.mb_segment.proofs.Totals.{below_total, some_view}
 use Rattle.mb_segment.proofs.Spots.{index_at}
 use Rattle.mb_segment.proofs.Halves.{no_writes}
 use Rattle.mb_segment.proofs.Kept.{St, at0, at1}
-use Rattle.mb_segment.proofs.PassMoves.{out_of_hub}
+use Rattle.mb_segment.proofs.BackMoves.{out_of_hub}
 use Rattle.mb_segment.proofs.Places.{closer, drawer, taker}
 use Rattle.std.specs.Prelude.{slice_index_or}
 use Rattle.atomic_table.specs.Table.{Final, Seen}

@@ -6,9 +6,8 @@ use Rattle.mb_segment.proofs.Base.{◌+◌, ◌<◌, ◌∙◌, ◌∷◌, ◌�
 use Rattle.mb_segment.specs.Vocabulary.{Account, Below, Claim, Entry, Has, History, IsCut, IsMember, IsOfPass, IsPassOf, Issuer}
 use Rattle.mb_segment.specs.Vocabulary.{Keeps, Member, Rises, Role, Spent, Spot, View, all_entries, drawn, drawn_in}
 use Rattle.mb_segment.specs.Vocabulary.{cuts_by, has_cut, is_of, new_hub, spot, spots_by, spots_to}
-use Rattle.mb_segment.proofs.Totals.{some_view}
+use Rattle.mb_segment.proofs.Totals.{first_is, some_view}
 use Rattle.mb_segment.proofs.Halves.{hub_is_not_spent, no_hub}
-use Rattle.mb_segment.proofs.PassMoves.{first_is}
 use Rattle.mb_segment.proofs.Kept.{St, at0}
 
 pub some_cutter : (c : Option ℕ) → 0 < cuts_by c → (n : ℕ) × (c ≡ Some n)

@@ -1,10 +1,11 @@
-use Rattle.mb_segment.proofs.Base.{[], ap, arith, get_elem?, inl, length, refl, some, some-injective, some-ne-none, subst, suc, sym}
+use Rattle.mb_segment.proofs.Base.{List, [], ap, arith, get_elem?, inl, length, refl, some, some-injective, some-ne-none, subst, suc, sym}
 use Rattle.mb_segment.proofs.Base.{None, zero, ℕ, ⊎_elim, ◌-◌, ◌+◌, ◌∷◌, ◌≡◌, ◌≢◌, ◌≤◌}
 use Rattle.mb_segment.specs.SegmentSamples.{forgotten, giver, overslept, sleeper, taken, unused, with_tokens, woken}
-use Rattle.mb_segment.specs.Vocabulary.{Duty, Fits, HasLooked, History, Issuer, Keeps, Member, View, blank, drawn, free, if_hub, listed, member, new_hub, one_if_member, out}
+use Rattle.mb_segment.specs.Vocabulary.{Account, Called, Duty, Fits, HasLooked, History, IsCalled, Issuer, Keeps, Member, View, blank, drawn, free, if_hub, listed, member, new_hub, one_if_member, out}
 use Rattle.mb_segment.specs.Vocabulary.{Sight, owes_wake, row, sleeping, takes_token, tokens_given, tokens_taken, with_duty}
 use Rattle.mb_segment.proofs.Halves.{hub_is_no_member, hub_is_not_spent, spent_is_no_member}
-use Rattle.mb_segment.proofs.Kept.{Plain, at0, at1, at2, refit}
+use Rattle.mb_segment.proofs.Kept.{at0, at1, at2}
+use Rattle.mb_segment.proofs.Fitting.{Plain, refit}
 use Rattle.mb_segment.proofs.LookMoves.{none_free}
 use Rattle.mb_segment.proofs.PassMoves.{opens, unseen}
 use Rattle.mb_segment.proofs.Places.{new_open}
@@ -43,7 +44,7 @@ abbrev no_entry : History ℕ
 no_entry = record { claims = []; rest = []; cutter = None }
 
 is_pass : (n : ℕ) → n ≢ 0 → Fits no_entry [] 0 0 [] n blank
-is_pass n apart = unseen no_entry [] 0 0 [] n Member
+is_pass n apart = unseen no_entry [] 0 0 [] n 0 Member
     (λ _. record { sent = refl; got = refl; cut = refl; no_hub = apart; not_back = λ in_. in_ })
     (λ e. absurd (hub_is_no_member (sym e))) (λ e. absurd (spent_is_no_member (sym e)))
 
@@ -53,7 +54,7 @@ module _ (one : View ℕ) (plain_ : Plain blank one) where
       → Fits no_entry [] 0 0 [] n v
   fits_both zero v at = subst (λ (u : View ℕ). Fits no_entry [] 0 0 [] 0 u) (some-injective two_out v at)
       (refit no_entry [] 0 0 [] 0 new_hub two_out (refl, refl, refl, refl, refl, refl, refl, λ _ e. e)
-      (unseen no_entry [] 0 0 [] 0 Issuer (λ e. absurd (hub_is_no_member e)) (λ _. (refl, tt))
+      (unseen no_entry [] 0 0 [] 0 0 Issuer (λ e. absurd (hub_is_no_member e)) (λ _. (refl, tt))
       (λ e. absurd (hub_is_not_spent Issuer refl e))))
   fits_both (suc zero) v at = subst (λ (u : View ℕ). Fits no_entry [] 0 0 [] 1 u) (some-injective one v at)
       (refit no_entry [] 0 0 [] 1 blank one plain_ (is_pass 1 (λ q. omega arith)))
@@ -70,6 +71,18 @@ module _ (one : View ℕ) (plain_ : Plain blank one) where
   looked_both (suc (suc zero)) v at =
       subst (λ (u : View ℕ). HasLooked [] 2 u.sight) (some-injective giver v at) (refl, λ lt. absurd (omega arith))
   looked_both (suc (suc (suc n))) v at = absurd (some-ne-none v (sym at))
+
+  called_both : (n : ℕ) (v : View ℕ) → get_elem? (two_out ∷ one ∷ giver ∷ []) n ≡ some v
+      → IsCalled (λ j. 0) [] n v
+  called_both zero v at = subst (λ (u : View ℕ). IsCalled (λ j. 0) [] 0 u) (some-injective two_out v at)
+      (λ _. refl, λ _. tt)
+  called_both (suc zero) v at = subst (λ (u : View ℕ). IsCalled (λ j. 0) [] 1 u) (some-injective one v at) (
+    λ _. ap (λ (a : Account ℕ). a.name) plain_.1,
+    λ _. subst (λ (as_ : List (Account ℕ)). Called (λ j. 0) [] as_) (sym plain_.5) tt,
+  )
+  called_both (suc (suc zero)) v at = subst (λ (u : View ℕ). IsCalled (λ j. 0) [] 2 u) (some-injective giver v at)
+      (λ _. refl, λ _. tt)
+  called_both (suc (suc (suc n))) v at = absurd (some-ne-none v (sym at))
 
   keeps_both : (t : ℕ) → t ≤ 1 → listed one ≡ t → sleeping one ≤ t → one.role ≡ Member → one.out ≡ 0
       → tokens_given one ≡ 0 → t + tokens_taken one ≡ 1 → Keeps (with_tokens t one giver)
@@ -89,6 +102,9 @@ module _ (one : View ℕ) (plain_ : Plain blank one) where
     walked = (refl, refl);
     true_ = tt;
     looked = λ n v at r. looked_both n v at;
+    names = λ j. 0;
+    short = λ j. omega arith;
+    called = called_both;
     undrawn = λ k le lt. absurd (omega arith);
     waits = λ k e le at. absurd (some-ne-none e (sym at));
     taken_ = λ k c at. absurd (some-ne-none c (sym at));
