@@ -3,14 +3,13 @@ use Rattle.std.proofs.Common.{ℕ, Bool, true, false, true≢false, List, [], le
 use Rattle.std.proofs.Common.{◌≡◌, ◌+◌, ◌<◌, ◌≤◌, ◌⊎◌, ◌∷◌, ◌++◌, ◌||◌, ◌∙◌}
 use Rattle.std.specs.Prelude.{IfSome, None, Option, Some, get_or, is_some, slice_set}
 use Rattle.mb_segment.specs.Seats.{view_in as pass_view}
-use Rattle.mb_segment.specs.Vocabulary.{IsFree as IsCalmPass, hub_view, is_over, or, took_back}
+use Rattle.mb_segment.specs.Vocabulary.{IsFree as IsCalmPass, hub_view, is_over, named, or, took_back}
 use mathlib.Core.Option.{some, some-injective}
 use lib.ListN.{get_elem?}
 use Rattle.mb_channel.specs.Types.{Arc, Global, Home, Homes, Knows, Pass, Segment, View, arc_value}
 use Rattle.atomic_table.specs.Table.{State, rest}
 use Rattle.atomic_table.proofs.Lists.{at_longer}
 use Rattle.mb_channel.specs.Homes.{Agrees, AreLed, AreOver, At, Changes, Grows, HasIssued, HasTakenBack, IsBusy, IsDone, IsIn, IsNew, IsNext, IsOver}
-use Rattle.mb_channel.specs.Visits.{fresh_pass}
 use Rattle.mb_channel.specs.Homes.{IsPassOf, Keeps, Longer, Made, MayGive, MayLeave, Sat, Stands, came_back, came_to, is_in, left_segment, out_of, sends, total, unlocked}
 use Rattle.mb_channel.proofs.Moves.{AllFitEnd, busy_same, ended_stay, grows_same, in_grows, near_grows, next_grows, nobody_set, over_grows, still_told, unlocks}
 use Rattle.mb_channel.proofs.Stays.{unlocks_came, unlocks_left}
@@ -137,7 +136,7 @@ module _ {T : Type 0} where
   pub unlocks_same : (slots id : ℕ) (me : Sat T) (y : Homes T) (hs : List (Home T)) → Stands hs y → me.1 ≡ (0, y) ∷ []
       → me.0.live ≡ true → me.0.holds ≡ true → MayLeave me.0 hs → MayGive (λ v. v) slots id me
   unlocks_same slots id me y hs stands carried live holds may = unlocks
-      (λ v. v) slots id me y hs stands carried live holds refl refl refl refl refl refl refl
+      (λ v. v) slots id me y hs stands carried live holds refl refl refl refl refl refl refl refl
       (λ s k at part before.
       let f = k.fits id me.0 at in
       let l : IsKept me.0.at k.homes hs = subst (λ x. IsKept me.0.at x hs) before
@@ -222,8 +221,8 @@ module _ {T : Type 0} where
   -- the segment whose hub issued a pass
   pub issued_of : (n : ℕ) (r : Option (Arc (Segment T Global) Global × Pass T)) (hs : List (Home T)) (k : ℕ) (h g : Home T)
       → get_elem? hs k ≡ some h → IfSome r (λ r. HasIssued h g r.0 r.1)
-      → IfSome r (λ r. (pass_view r.1 ≡ fresh_pass n) × IsCalmPass r.1)
-      → IfSome r (λ r. Changes hs (slice_set hs k g) k (λ h g. HasIssued h g r.0 r.1) × (pass_view r.1 ≡ fresh_pass n)
+      → IfSome r (λ r. (pass_view r.1 ≡ named n) × IsCalmPass r.1)
+      → IfSome r (λ r. Changes hs (slice_set hs k g) k (λ h g. HasIssued h g r.0 r.1) × (pass_view r.1 ≡ named n)
       × IsCalmPass r.1)
   issued_of n (Some r) hs k h g at did new = ((h, g, at, refl, did), new.0, new.1)
   issued_of n None hs k h g at did new = tt

@@ -229,7 +229,7 @@ module _ {T : Type 0} where
       → (me.0.shut ≡ true) ⊎ (me.0.alone ≡ true) → (me.0.at ≡ n) × (me.0.orderly ≡ true)
       → MayGive (told_last n) slots id me
   unlocks_told n slots id me y hs stands carried live holds is size seen here = unlocks
-      (told_last n) slots id me y hs stands carried live holds refl refl refl refl refl refl refl
+      (told_last n) slots id me y hs stands carried live holds refl refl refl refl refl refl refl refl
       (λ s k at part before.
       let v = me.0 in
       let f = k.fits id v at in

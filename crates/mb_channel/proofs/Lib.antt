@@ -7,6 +7,7 @@ mod Counts
 mod Deeds
 mod EndLogs
 mod Ends
+mod Fates
 mod Freed
 mod Hiring
 mod Halves

@@ -339,10 +339,10 @@ module _ {T : Type 0} where
       → (f (unlocked me.0)).rights ≡ me.0.rights → (f (unlocked me.0)).sends ≡ me.0.sends
       → (f (unlocked me.0)).receives ≡ me.0.receives → (f (unlocked me.0)).ended ≡ me.0.ended
       → (f (unlocked me.0)).holds ≡ false → (f (unlocked me.0)).found ≡ me.0.found
-      → (f (unlocked me.0)).lengths ≡ me.0.lengths
+      → (f (unlocked me.0)).lengths ≡ me.0.lengths → (f (unlocked me.0)).fates ≡ me.0.fates
       → ((s : State (Homes T) (Knows T)) (k : Keeps s) → get_elem? s.views id ≡ some me.0 → 0 < me.0.rights
       → me.0.before ≡ k.homes → Lawful s k id me.0 hs (f (unlocked me.0)))
       → MayGive f slots id me
-  unlocks f slots id me y hs stands carried live holds ends senders receivers past lets same lengths = unlocks_as
+  unlocks f slots id me y hs stands carried live holds ends senders receivers past lets same lengths fates = unlocks_as
       (gives_lock f (step slots 0 0 0 none) me 0) (f (unlocked me.0)) slots id me y hs stands carried live holds
-      ends senders receivers past lets (refl, refl, same, lengths)
+      ends senders receivers past lets (refl, refl, same, lengths, fates)

@@ -116,7 +116,7 @@ module _ {T : Type 0} where
       → (me.0.takes ≡ false → x.account.got ≡ []) → x.account.name ≡ me.0.name
       → MayGive (left_segment x done) slots id me
   unlocks_left x done slots id me y hs stands carried live holds inside h g at is same keeps_ stays back out next over
-      poor name = unlocks (left_segment x done) slots id me y hs stands carried live holds refl refl refl refl refl refl refl
+      poor name = unlocks (left_segment x done) slots id me y hs stands carried live holds refl refl refl refl refl refl refl refl
       (λ s k at' part before.
       let v = me.0 in
       let a = x.account in
@@ -173,7 +173,7 @@ module _ {T : Type 0} where
       → HasIssued h g c p → (b ≡ true → me.0.takes ≡ true)
       → MayGive (came_to c b) slots id me
   unlocks_came b c p g slots id me y hs stands carried live holds outside h at is did next = unlocks
-      (came_to c b) slots id me y hs stands carried live holds refl refl refl refl refl refl refl
+      (came_to c b) slots id me y hs stands carried live holds refl refl refl refl refl refl refl refl
       (λ s k at' part before.
       let v = me.0 in
       let f = k.fits id v at' in
@@ -241,7 +241,7 @@ module _ {T : Type 0} where
       → me.1 ≡ (0, y) ∷ [] → me.0.live ≡ true → me.0.holds ≡ true → me.0.inside ≡ false → hs ≡ me.0.before
       → me.0.at < j → GoesOnTo b me.0.before j → MayGive (went_on j b) slots id me
   unlocks_on b j slots id me y hs stands carried live holds outside is far on = unlocks
-      (went_on j b) slots id me y hs stands carried live holds refl refl refl refl refl refl refl
+      (went_on j b) slots id me y hs stands carried live holds refl refl refl refl refl refl refl refl
       (λ s k at part before.
       let v = me.0 in
       let f = k.fits id v at in

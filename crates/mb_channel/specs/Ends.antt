@@ -7,6 +7,8 @@ use Rattle.mb_channel.specs.declared.place.Place.{Place}
 use Rattle.mb_channel.specs.Deeds.{Deed}
 use Rattle.mb_channel.specs.declared.end.End.{End}
 use Rattle.mb_channel.specs.Closing.{KnowsEnd}
+use Rattle.mb_channel.specs.declared.auditing.Audited.{Audited}
+use Rattle.mb_channel.specs.Fates.{chair_after}
 use Rattle.mb_channel.specs.Lengths.{chair_told}
 use Rattle.mb_channel.specs.Inside.{Log, found_there, known_there, log_in, log_of_past, pass_there, told_in}
 
@@ -16,6 +18,10 @@ view_of e = e.chair.me.0
 -- the end that was told this length. Nothing else of it is new
 abbrev pub end_told : {T : Type 0} → Option ℕ → End T → End T
 end_told told e = record e { chair = chair_told told e.chair }
+
+-- the end after this answer. Nothing else of it is new
+abbrev pub end_after : {T : Type 0} → Audited T → End T → End T
+end_after a e = record e { chair = chair_after a e.chair }
 
 -- all calls by which the end sent a value, and all by which it received one, in order
 abbrev pub sent_by : {T : Type 0} → End T → List (Deed T)

@@ -1,7 +1,7 @@
--- The visits of ends to segments, and the names under which they did them.
+-- The visits of ends to segments, the names under which they were made, and the fates that a segment has of them.
 use Rattle.std.specs.Prelude.{ℕ, ◌≡◌, ◌<◌, nat_eq, if◌then◌else◌, List, [], ◌∷◌, Option, Some, None}
-use Rattle.mb_segment.specs.Vocabulary.{blank}
-use Rattle.mb_channel.specs.Types.{Account, Knows, Past, View, Visit}
+use Rattle.mb_segment.specs.Vocabulary.{OfFate, fate_in}
+use Rattle.mb_channel.specs.Types.{Account, Global, Knows, Left, Past, View, Visit}
 
 -- ---- the visits of all ends, the newest first
 pub record Made (T : Type 0) : Type 0 where
@@ -32,9 +32,6 @@ AllPast P [] = Unit {0}
 AllPast P (p ∷ ps) = P p × AllPast P ps
 
 -- ---- names
-abbrev pub fresh_pass : {T : Type 0} → ℕ → View T
-fresh_pass n = blank
-
 -- the pass, if there is one, has this name
 abbrev pub IsNamed : {T : Type 0} → ℕ → Option (View T) → Type 0
 IsNamed n None = Unit {0}
@@ -48,3 +45,7 @@ AreNamed n (v ∷ vs) = (v.account.name ≡ n) × AreNamed n vs
 -- each visit that the end knows of was made under its end's name
 abbrev pub HasNames : {T : Type 0} → Knows T → Type 0
 HasNames v = AreNamed v.name v.visits × AllPast (λ p. AreNamed p.name p.visits) v.ended
+
+-- these are the fates of what the passes with these accounts sent and received in a segment
+abbrev pub TellsFates : {T : Type 0} → Left T Global → List (Account T) → Type 0
+TellsFates l accounts = (at : ℕ) → OfFate accounts at (fate_in l at)

@@ -24,6 +24,7 @@ pub struct Debtor<T: Drop> {
     ghost counts: { 0 < (view_in chair).rights },
     ghost counted: { rights < 18446744073709551615 → (view_in chair).rights ≡ rights },
     ghost name: { (view_in chair).name ≡ name },
+    ghost short: { name < 4294967295 },
     ghost named: { busy.pass.seat.me.0.account.name ≡ name },
     ghost inside: { (view_in chair).inside ≡ true },
     ghost place: { (view_in chair).place ≡ Some busy.segment },
@@ -67,7 +68,7 @@ impl<T: Drop> End<T> {
             ..
         } = self;
         let Some(inside) = inside else { unreachable!() };
-        let (inside, back) = match inside.try_send(value) {
+        let (inside, back) = match inside.try_send(value, name) {
             Attempt::Sent(inside) => (inside, None),
             Attempt::Again(inside, value) => (inside, Some((value, true))),
             Attempt::Over(inside, value) => (inside, Some((value, false))),

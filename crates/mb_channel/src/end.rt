@@ -36,6 +36,7 @@ pub struct End<T: Drop> {
     ghost counts: { 0 < (view_in chair).rights },
     ghost counted: { rights < 18446744073709551615 → (view_in chair).rights ≡ rights },
     ghost name: { (view_in chair).name ≡ name },
+    ghost short: { name < 4294967295 },
     ghost named: { IsNamed name (pass_there inside) },
     ghost inside_: { (view_in chair).inside ≡ is_some inside },
     ghost place: { is_some inside ≡ true → (view_in chair).place ≡ share_in inside },
@@ -83,7 +84,7 @@ impl<T: Drop> End<T> {
         let Some(inside) = self.inside.take() else {
             return Err(value);
         };
-        let (inside, sent) = inside.send(rt, value);
+        let (inside, sent) = inside.send(rt, value, self.name);
         self.inside = Some(inside);
         sent
     }
@@ -101,7 +102,7 @@ impl<T: Drop> End<T> {
             → (result ≡ None) × (self.new ≡ self.old) }
     {
         let inside = self.inside.take()?;
-        let (inside, got) = inside.receive(rt);
+        let (inside, got) = inside.receive(rt, self.name);
         self.inside = Some(inside);
         if got.is_none() {
             self.over = true;
@@ -135,7 +136,7 @@ impl<T: Drop> End<T> {
         let Some(inside) = self.inside.take() else {
             return Received::Over;
         };
-        let (inside, got) = inside.receive_by(rt, deadline);
+        let (inside, got) = inside.receive_by(rt, deadline, self.name);
         self.inside = Some(inside);
         if matches!(&got, Received::Over) {
             self.over = true;
@@ -161,7 +162,7 @@ impl<T: Drop> End<T> {
         ensures wakes { Tells 0 (wakes_of self.old) (wakes_of self.new) }
     {
         let inside = self.inside.take()?;
-        let (inside, tried) = inside.try_receive();
+        let (inside, tried) = inside.try_receive(self.name);
         // (a plain write would look whether there is something to drop)
         mem::forget(mem::replace(&mut self.inside, Some(inside)));
         if tried.is_none() {

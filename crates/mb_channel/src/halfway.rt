@@ -24,6 +24,7 @@ pub struct Halfway<T: Drop> {
     ghost counts: { 0 < (view_in chair).rights },
     ghost counted: { rights < 18446744073709551615 → (view_in chair).rights ≡ rights },
     ghost name: { (view_in chair).name ≡ name },
+    ghost short: { name < 4294967295 },
     ghost named: { begun.pass.seat.me.0.account.name ≡ name },
     ghost inside: { (view_in chair).inside ≡ true },
     ghost place: { (view_in chair).place ≡ Some begun.segment },
@@ -180,7 +181,7 @@ impl<T: Drop> Halfway<T> {
             at,
             rights,
             name,
-            busy: begun.mark(value),
+            busy: begun.mark(value, name),
             over,
         }
     }
@@ -203,7 +204,7 @@ impl<T: Drop> Halfway<T> {
             begun,
             over,
         } = self;
-        let (value, inside) = begun.read();
+        let (value, inside) = begun.read(name);
         (
             value,
             End {

@@ -31,6 +31,7 @@ pub struct KeptSender<T: Drop> {
     ghost counts: { 0 < (view_in chair).rights },
     ghost counted: { rights < 18446744073709551615 → (view_in chair).rights ≡ rights },
     ghost name: { (view_in chair).name ≡ name },
+    ghost short: { name < 4294967295 },
     ghost named: { IsNamed name (pass_at busy) },
     ghost inside: { (view_in chair).inside ≡ is_some busy },
     ghost place: { is_some busy ≡ true → (view_in chair).place ≡ share_at busy },
@@ -174,7 +175,7 @@ impl<T: Drop> KeptSender<T> {
         if busy.debt != Debt::Nothing {
             return Posted::Back(value);
         }
-        busy.send_here(value)
+        busy.send_here(value, self.name)
     }
 
     /// The sender, or, if it owes something, that.

@@ -101,14 +101,14 @@ impl<T: Drop> List<T> {
 
     /// A list with no segment, and its first chair, of this name, which counts for a sender and a receiver. The error is
     /// [`AllocError`] if the allocator refuses the memory.
-    pub fn new(alloc: Global, name: u32) -> Result<(List<T>, Chair<T>), AllocError>
+    pub fn new(alloc: Global, name: u32, audited: bool) -> Result<(List<T>, Chair<T>), AllocError>
         ensures list { IfOk result (λ r. r.1.table_id ≡ r.0.table.shared.table_id) }
         ensures first { IfOk result (λ r. IsReady r.1.me × IsFirst (view_in r.1)
             × ((view_in r.1).at ≡ 0) × ((view_in r.1).takes ≡ true)
             × ((view_in r.1).orderly ≡ true) × ((view_in r.1).name ≡ name)
             × ((view_in r.1).sends ≡ 1) × ((view_in r.1).receives ≡ 1)) }
     {
-        let homes = no_homes(alloc)?;
+        let homes = no_homes(alloc, audited)?;
         match Table::new(alloc, &[0, 1, 1, 1, 1], homes, &()) {
             Ok((table, mut chair)) => {
                 let list = List { table, alloc };
@@ -204,11 +204,11 @@ fn size_at(at: usize) -> u32 {
     if at == 0 { 64 } else { 1024 }
 }
 
-fn no_homes<T: Drop>(alloc: Global) -> Result<Vec<Homes<T>>, AllocError>
+fn no_homes<T: Drop>(alloc: Global, audited: bool) -> Result<Vec<Homes<T>>, AllocError>
     ensures { IfOk result (λ v. (l : Homes T) × (v.items ≡ l ∷ []) × (l.list.items ≡ [])
-        × (l.first ≡ 0)) }
+        × (l.first ≡ 0) × (l.audit.kept.items ≡ [])) }
 {
     let mut homes = Vec::new(alloc);
-    homes.push(Homes::none(alloc))?;
+    homes.push(Homes::none(alloc, audited))?;
     Ok(homes)
 }

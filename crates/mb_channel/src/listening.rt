@@ -38,7 +38,7 @@ impl<T: Drop> End<T> {
             behind: _,
         } = self;
         let Some(inside) = inside else { unreachable!() };
-        let (busy, heard) = inside.poll();
+        let (busy, heard) = inside.poll(name);
         let over = matches!(&heard, Heard::Over);
         Ok((
             Debtor {
@@ -65,7 +65,7 @@ impl<T: Drop> Debtor<T> {
         ensures wakes { Tells 0 (wakes_with self) (wakes_with result.0) }
     {
         let mut debtor = self;
-        let heard = debtor.busy.wake_up();
+        let heard = debtor.busy.wake_up(debtor.name);
         debtor.over = debtor.over || matches!(&heard, Heard::Over);
         (debtor, heard)
     }

@@ -28,7 +28,7 @@ pub(crate) fn end_at<T: Drop>(
     requires ready { IsReady chair.me }
     requires first { IsFirst (view_in chair) }
     requires here { (view_in chair).at ≡ at }
-    requires name { (view_in chair).name ≡ name }
+    requires name { ((view_in chair).name ≡ name) × (name < 4294967295) }
     requires orderly { (view_in chair).orderly ≡ true }
     requires ended { behind ≡ true → KnowsEnd (view_in chair) }
     ensures behind { result.behind ≡ behind }
@@ -98,6 +98,7 @@ impl<T: Drop> End<T> {
     /// place.
     pub(crate) fn split<S: Side>(&mut self, list: SharedList<T>, name: u32) -> End<T>
         requires list { self.old.chair.table_id ≡ (arc_value list).table.shared.table_id }
+        requires name { name < 4294967295 }
         requires counts { 1 < (view_of self.old).rights }
         requires sends { S.sends ≤ (view_of self.old).sends }
         requires receives { S.receives ≤ (view_of self.old).receives }
@@ -158,6 +159,7 @@ impl<T: Drop> End<T> {
     /// A new sender, of this name, which begins where this end is. It is refused if so many ends were made that they cannot
     /// be counted, or, by [`Refused::Closed`], if no sender is left, which the end then knows.
     pub(crate) fn new_sender(&mut self, name: u32) -> Result<Sender<T>, Refused>
+        requires name { name < 4294967295 }
         ensures end { IsSame self.old self.new }
         ensures takes { (view_of self.new).takes ≡ (view_of self.old).takes }
         ensures sent { sent_by self.new ≡ sent_by self.old }
@@ -207,21 +209,40 @@ pub fn unbounded<T: Drop>(alloc: Global) -> Result<(Sender<T>, Receiver<T>), All
     ensures names { IfOk result
         (λ r. ((view_of r.0.end).name ≡ 0) × ((view_of r.1.end).name ≡ 0)) }
 {
-    named(alloc, 0, 0)
+    make(alloc, 0, 0, false)
 }
 
-/// A channel whose first sender and first receiver have these names.
-fn named<T: Drop>(
+/// A channel that keeps the fates of its values until an end takes them, by [`Sender::try_fates`]. Its first sender and
+/// its first receiver have these names. An end that has 0 has no name, and neither do its fates.
+pub fn audited<T: Drop>(
     alloc: Global,
     sender: u32,
     receiver: u32,
 ) -> Result<(Sender<T>, Receiver<T>), AllocError>
+    requires sender { sender < 4294967295 }
+    requires receiver { receiver < 4294967295 }
     ensures channel { IfOk result (λ r. AreOfOneChannel r.0.end r.1.end) }
     ensures fresh { IfOk result (λ r. IsFresh r.0.end × IsFresh r.1.end) }
     ensures names { IfOk result
         (λ r. ((view_of r.0.end).name ≡ sender) × ((view_of r.1.end).name ≡ receiver)) }
 {
-    let (list, chair) = List::new(alloc, receiver)?;
+    make(alloc, sender, receiver, true)
+}
+
+fn make<T: Drop>(
+    alloc: Global,
+    sender: u32,
+    receiver: u32,
+    audited: bool,
+) -> Result<(Sender<T>, Receiver<T>), AllocError>
+    requires sender { sender < 4294967295 }
+    requires receiver { receiver < 4294967295 }
+    ensures channel { IfOk result (λ r. AreOfOneChannel r.0.end r.1.end) }
+    ensures fresh { IfOk result (λ r. IsFresh r.0.end × IsFresh r.1.end) }
+    ensures names { IfOk result
+        (λ r. ((view_of r.0.end).name ≡ sender) × ((view_of r.1.end).name ≡ receiver)) }
+{
+    let (list, chair) = List::new(alloc, receiver, audited)?;
     let list = match Arc::new(alloc, list) {
         Ok(list) => list,
         Err(refused) => {
@@ -257,6 +278,7 @@ impl<T: Drop> Sender<T> {
 
     /// The same, of another name.
     pub fn another_named(&mut self, name: u32) -> Option<Sender<T>>
+        requires name { name < 4294967295 }
         ensures channel { AreOfOneChannel self.old.end self.new.end }
         ensures logs { log_of self.new.end ≡ log_of self.old.end }
         ensures told { StaysTold (view_of self.old.end) (view_of self.new.end) }
@@ -289,6 +311,7 @@ impl<T: Drop> Receiver<T> {
 
     /// The same, of another name.
     pub fn another_named(&mut self, name: u32) -> Option<Receiver<T>>
+        requires name { name < 4294967295 }
         ensures channel { AreOfOneChannel self.old.end self.new.end }
         ensures logs { log_of self.new.end ≡ log_of self.old.end }
         ensures told { StaysTold (view_of self.old.end) (view_of self.new.end) }

@@ -1,5 +1,5 @@
 //! What an end knows. No value of it is made.
-use crate::home::{Home, Shared};
+use crate::home::{Fates, Home, Shared};
 use mb_segment::Account;
 use std::collections::LinkedList;
 
@@ -58,4 +58,6 @@ pub struct Knows<T: Drop> {
     pub found: u64,
     /// The lengths that it was told, the newest first: how many values waited, as far as the hubs knew.
     pub lengths: LinkedList<u64>,
+    /// What it was told of fates, the newest first: those in a segment, or that none are kept.
+    pub fates: LinkedList<Option<Fates<T>>>,
 }

@@ -2,10 +2,9 @@
 ghost use Rattle.std.specs.Prelude.{suc, ◌≡◌, ◌<◌, ◌≤◌, ◌⊎◌, [], length, true, false, IfOk, IfErr};
 ghost use Rattle.std.specs.Arc.{arc_value};
 ghost use Rattle.mb_segment.specs.Seats.{view_in as pass_view};
-ghost use Rattle.mb_segment.specs.Vocabulary.{IsFree};
+ghost use Rattle.mb_segment.specs.Vocabulary.{IsFree, named};
 ghost use Rattle.mb_channel.specs.Homes.{At, Changes, HasIssued, HasTakenBack, HoldsHomes, IsPassOf, IsReady};
 ghost use Rattle.mb_channel.specs.Homes.{MayGive, came_to, left_segment, out_of, unlocked, view_in, went_on};
-ghost use Rattle.mb_channel.specs.Visits.{fresh_pass};
 ghost use Rattle.mb_channel.specs.Tallies.{GoesOnTo, KnowsLast, found_none, told_last};
 ghost use Rattle.mb_channel.specs.Answers.{OfCame};
 
@@ -107,6 +106,7 @@ impl<T: Drop> List<T> {
     /// The segment at this place issues a pass of this name, if it is there. Of an end that comes to send alone it has to
     /// be the last.
     fn get_pass(&self, chair: &mut Chair<T>, name: u32, at: usize, takes: bool) -> Came<T>
+        requires name { name < 4294967295 }
         requires list { chair.old.table_id ≡ self.now.table.shared.table_id }
         requires homes { HoldsHomes chair.old.me (λ hs. hs ≡ (view_in chair.old).before) }
         ensures list { (chair.new.table_id ≡ chair.old.table_id) × (chair.new.id ≡ chair.old.id) }
@@ -114,7 +114,7 @@ impl<T: Drop> List<T> {
         ensures answer { OfCame result
             (λ s p. HoldsHomes chair.new.me (λ hs.
             Changes (view_in chair.old).before hs at (λ h g. HasIssued h g s p))
-            × (pass_view p ≡ fresh_pass name) × IsFree p
+            × (pass_view p ≡ named name) × IsFree p
             × (takes ≡ false → suc at ≡ length (view_in chair.old).before))
             (λ k. HoldsHomes chair.new.me (λ hs. hs ≡ (view_in chair.old).before)
             × (at < k) × GoesOnTo takes (view_in chair.old).before k)
@@ -247,6 +247,7 @@ impl<T: Drop> List<T> {
         takes: bool,
         adds: bool,
     ) -> Came<T>
+        requires name { name < 4294967295 }
         requires list { chair.old.table_id ≡ self.now.table.shared.table_id }
         requires ready { IsReady chair.old.me }
         requires here { ((view_in chair.old).at ≡ at) × ((view_in chair.old).inside ≡ false) }
@@ -257,7 +258,7 @@ impl<T: Drop> List<T> {
             (λ s p. (chair.new.me.1 ≡ [])
             × (view_in chair.new ≡ came_to s takes (unlocked (view_in chair.old)))
             × (p.seat.table_id ≡ (arc_value s).table.shared.table_id)
-            × (pass_view p ≡ fresh_pass name) × IsFree p)
+            × (pass_view p ≡ named name) × IsFree p)
             (λ k. (at < k) × (chair.new.me.1 ≡ [])
             × (view_in chair.new ≡ went_on k takes (unlocked (view_in chair.old))))
             ((chair.new.me.1 ≡ []) × (view_in chair.new ≡ found_none (view_in chair.old)))
