@@ -308,8 +308,11 @@ module _ {T : Type 0} where
             (sym q.0 i, q.1 i)) record {
               named = f.named;
               falls = f.falls;
-              names = (f.names.0, past_append (λ p. AreNamed p.name p.visits) v.ended (past_of w ∷ w.ended) f.names.1
-                  g.names);
+              names = (
+                f.names.0,
+                past_append (λ p. AreNamed p.name p.visits) v.ended (past_of w ∷ w.ended) f.names.1
+                    g.names,
+              );
               near = f.near;
               inside = f.inside;
               takes = f.takes;

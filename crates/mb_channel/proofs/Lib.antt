@@ -1,4 +1,5 @@
 pub mod Accounts
+mod Audits
 mod Back
 mod Below
 mod Chairs
@@ -7,7 +8,6 @@ mod Counts
 mod Deeds
 mod EndLogs
 mod Ends
-mod Fates
 mod Freed
 mod Hiring
 mod Halves

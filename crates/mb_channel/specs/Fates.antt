@@ -1,5 +1,6 @@
 -- Fates: who sent and who received each value in a segment that was freed, and an end that is told them.
-use Rattle.std.specs.Prelude.{ℕ, suc, ◌≡◌, ◌⊎◌, ◌-◌, List, [], ◌∷◌, length, map, None, Option, Some, true}
+use Rattle.std.specs.Prelude.{ℕ, suc, ◌≡◌, ◌⊎◌, ◌-◌, ◌<◌, List, [], ◌∷◌, length, map, None, Option, Some, true}
+use Rattle.std.specs.VecDeque.{deque_capacity, deque_len}
 use mathlib.Core.Option.{some}
 use lib.ListN.{get_elem?}
 use Rattle.atomic_table.specs.Table.{Step}
@@ -9,7 +10,7 @@ use Rattle.mb_segment.specs.declared.left.Fate.{Fate}
 use Rattle.mb_channel.specs.declared.auditing.Audited.{Audited}
 use Rattle.mb_channel.specs.declared.auditing.Audited.TheVariants as audited
 use Rattle.mb_channel.specs.Deeds.{Deed}
-use Rattle.mb_channel.specs.Types.{Fates, Home, Homes, Knows}
+use Rattle.mb_channel.specs.Types.{Audit, Fates, Home, Homes, Knows}
 use Rattle.mb_channel.specs.Homes.{At, IsFreed, Sat, Stands, came_back, past_of, unlocked}
 use Rattle.mb_channel.specs.Inside.{Log, log_of_past}
 use Rattle.mb_channel.specs.Visits.{TellsFates}
@@ -20,6 +21,14 @@ is_fate f at = fate_in f.left at
 -- how many segments were freed whose fates are told, or were not kept
 abbrev pub told_of : {T : Type 0} → Homes T → ℕ
 told_of l = l.first - length l.audit.kept.items
+
+-- the same, with the same fates
+abbrev pub IsSameAudit : {T : Type 0} → Audit T → Audit T → Type 0
+IsSameAudit a b = (b.is_on ≡ a.is_on) × (b.kept.items ≡ a.kept.items)
+
+-- there is room for the fates in one segment more, if they are to be kept
+abbrev pub HasRoom : {T : Type 0} → Audit T → Type 0
+HasRoom a = a.is_on ≡ true → deque_len a.kept < deque_capacity a.kept
 
 -- if the channel is audited, it still is, and the fates in each segment that was freed meanwhile are kept
 abbrev pub LosesNone : {T : Type 0} → Homes T → Homes T → Type 0
@@ -42,11 +51,15 @@ HasTaken {T} hs told held = (l : Homes T) × (held ≡ (0, l) ∷ []) × Stands 
 abbrev pub told_fates : {T : Type 0} → Option (Fates T) → Knows T → Knows T
 told_fates told v = record v { fates = told ∷ v.fates }
 
+-- what it was told of fates, after this answer
+abbrev pub and_fates : {T : Type 0} → Audited T → List (Option (Fates T)) → List (Option (Fates T))
+and_fates (audited.Told f) fs = Some f ∷ fs
+and_fates audited.Nothing fs = None ∷ fs
+and_fates audited.Again fs = fs
+
 -- the view, and the chair, of an end that got this answer. Nothing else of it is new
 abbrev pub after : {T : Type 0} → Audited T → Knows T → Knows T
-after (audited.Told f) v = told_fates (Some f) v
-after audited.Nothing v = told_fates None v
-after audited.Again v = v
+after a v = record v { fates = and_fates a v.fates }
 
 abbrev pub chair_after : {T : Type 0} → Audited T → Seat (Homes T) (Knows T) → Seat (Homes T) (Knows T)
 chair_after a p = record p { me = (after a p.me.0, p.me.1) }

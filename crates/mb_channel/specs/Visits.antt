@@ -32,10 +32,10 @@ AllPast P [] = Unit {0}
 AllPast P (p ∷ ps) = P p × AllPast P ps
 
 -- ---- names
--- the pass, if there is one, has this name
-abbrev pub IsNamed : {T : Type 0} → ℕ → Option (View T) → Type 0
-IsNamed n None = Unit {0}
-IsNamed n (Some v) = v.account.name ≡ n
+-- the name of the pass, if there is one
+abbrev pub name_there : {T : Type 0} → Option (View T) → ℕ
+name_there None = 0
+name_there (Some v) = v.account.name
 
 -- all these visits were made under this name
 abbrev pub AreNamed : {T : Type 0} → ℕ → List (Visit T) → Type 0

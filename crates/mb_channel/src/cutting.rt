@@ -128,7 +128,8 @@ impl<T: Drop> Receiver<T> {
         let Some(list) = self.end.count_one() else {
             return false;
         };
-        let mut other = self.end.split::<AsNobody>(list, self.end.name);
+        let name = self.end.name;
+        let mut other = self.end.split::<AsNobody>(list, name);
         other.cut_all(rt);
         self.end.take_in(rt, other);
         true

@@ -23,7 +23,7 @@ pub struct Debtor<T: Drop> {
     ghost here: { (view_in chair).at ≡ at },
     ghost counts: { 0 < (view_in chair).rights },
     ghost counted: { rights < 18446744073709551615 → (view_in chair).rights ≡ rights },
-    ghost name: { (view_in chair).name ≡ name },
+    ghost called: { (view_in chair).name ≡ name },
     ghost short: { name < 4294967295 },
     ghost named: { busy.pass.seat.me.0.account.name ≡ name },
     ghost inside: { (view_in chair).inside ≡ true },

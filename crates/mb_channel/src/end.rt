@@ -3,7 +3,7 @@ ghost use Rattle.std.specs.Prelude.{◌≡◌, ◌<◌, [], true, false, is_some
 ghost use Rattle.std.specs.Arc.{arc_value};
 ghost use Rattle.mb_channel.specs.Homes.{IsReady, view_in};
 ghost use Rattle.mb_channel.specs.Inside.{got_there, pass_there, share_in, told_there};
-ghost use Rattle.mb_channel.specs.Visits.{IsNamed};
+ghost use Rattle.mb_channel.specs.Visits.{name_there};
 ghost use Rattle.mb_channel.specs.Closing.{KnowsEnd};
 
 use crate::inside::Inside;
@@ -35,9 +35,9 @@ pub struct End<T: Drop> {
     ghost here: { (view_in chair).at ≡ at },
     ghost counts: { 0 < (view_in chair).rights },
     ghost counted: { rights < 18446744073709551615 → (view_in chair).rights ≡ rights },
-    ghost name: { (view_in chair).name ≡ name },
+    ghost called: { (view_in chair).name ≡ name },
     ghost short: { name < 4294967295 },
-    ghost named: { IsNamed name (pass_there inside) },
+    ghost named: { is_some inside ≡ true → name_there (pass_there inside) ≡ name },
     ghost inside_: { (view_in chair).inside ≡ is_some inside },
     ghost place: { is_some inside ≡ true → (view_in chair).place ≡ share_in inside },
     ghost orderly: { (view_in chair).orderly ≡ true },

@@ -4,7 +4,7 @@ ghost use Rattle.std.specs.Arc.{arc_value};
 ghost use Rattle.mb_channel.specs.Homes.{IsReady, view_in};
 ghost use Rattle.mb_channel.specs.Closing.{KnowsEnd};
 ghost use Rattle.mb_channel.specs.Places.{got_at, pass_at, share_at, told_at};
-ghost use Rattle.mb_channel.specs.Visits.{IsNamed};
+ghost use Rattle.mb_channel.specs.Visits.{name_there};
 
 use crate::busy::{Busy, Debt};
 use crate::debtor::Debtor;
@@ -30,9 +30,9 @@ pub struct KeptSender<T: Drop> {
     ghost here: { (view_in chair).at ≡ at },
     ghost counts: { 0 < (view_in chair).rights },
     ghost counted: { rights < 18446744073709551615 → (view_in chair).rights ≡ rights },
-    ghost name: { (view_in chair).name ≡ name },
+    ghost called: { (view_in chair).name ≡ name },
     ghost short: { name < 4294967295 },
-    ghost named: { IsNamed name (pass_at busy) },
+    ghost named: { is_some busy ≡ true → name_there (pass_at busy) ≡ name },
     ghost inside: { (view_in chair).inside ≡ is_some busy },
     ghost place: { is_some busy ≡ true → (view_in chair).place ≡ share_at busy },
     ghost orderly: { (view_in chair).orderly ≡ true },
@@ -169,13 +169,14 @@ impl<T: Drop> KeptSender<T> {
             → (result ≡ posted.Back value) × (self.new ≡ self.old) }
         ensures chair { self.new.chair ≡ self.old.chair }
     {
+        let name = self.name;
         let Some(busy) = &mut self.busy else {
             return Posted::Back(value);
         };
         if busy.debt != Debt::Nothing {
             return Posted::Back(value);
         }
-        busy.send_here(value, self.name)
+        busy.send_here(value, name)
     }
 
     /// The sender, or, if it owes something, that.

@@ -65,7 +65,8 @@ impl<T: Drop> Debtor<T> {
         ensures wakes { Tells 0 (wakes_with self) (wakes_with result.0) }
     {
         let mut debtor = self;
-        let heard = debtor.busy.wake_up(debtor.name);
+        let name = debtor.name;
+        let heard = debtor.busy.wake_up(name);
         debtor.over = debtor.over || matches!(&heard, Heard::Over);
         (debtor, heard)
     }

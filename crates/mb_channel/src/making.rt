@@ -273,7 +273,8 @@ impl<T: Drop> Sender<T> {
         ensures new { IfSome result (λ s. AreOfOneChannel self.old.end s.end × IsFresh s.end
             × ((view_of s.end).name ≡ (view_of self.old.end).name)) }
     {
-        self.another_named(self.end.name)
+        let name = self.end.name;
+        self.another_named(name)
     }
 
     /// The same, of another name.
@@ -306,7 +307,8 @@ impl<T: Drop> Receiver<T> {
         ensures new { IfSome result (λ r. AreOfOneChannel self.old.end r.end × IsFresh r.end
             × ((view_of r.end).name ≡ (view_of self.old.end).name)) }
     {
-        self.another_named(self.end.name)
+        let name = self.end.name;
+        self.another_named(name)
     }
 
     /// The same, of another name.

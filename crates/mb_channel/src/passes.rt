@@ -1,9 +1,9 @@
 //! Passes of the segments in the list: the hubs issue them and take them back.
-ghost use Rattle.std.specs.Prelude.{◌≡◌, ◌<◌, ◌≤◌, ◌-◌, length, true, IfOk, IfErr, IfSome, OnErr, IfNone, ◌++◌, ◌∷◌, [], List};
+ghost use Rattle.std.specs.Prelude.{suc, ◌≡◌, ◌<◌, ◌≤◌, ◌+◌, ◌-◌, length, true, IfOk, IfErr, IfSome, OnErr, IfNone, ◌++◌, ◌∷◌, [], List};
 ghost use Rattle.mb_segment.specs.Seats.{view_in as pass_view};
 ghost use Rattle.mb_segment.specs.Vocabulary.{HasLeft, IsFree, IsWhole as SegmentIsWhole, named};
-ghost use Rattle.mb_channel.specs.Homes.{At, Changes, HasIssued, HasTakenBack, IsDone, IsFreed, IsNew, Stands, came_back, out_of};
-ghost use Rattle.mb_channel.specs.Fates.{IsFateOf, LosesNone, told_of};
+ghost use Rattle.mb_channel.specs.Homes.{At, Changes, HasIssued, HasTakenBack, IsDone, IsFreed, IsNew, KeepsFates, Stands, came_back, out_of};
+ghost use Rattle.mb_channel.specs.Fates.{HasRoom, IsFateOf, IsSameAudit, LosesNone, told_of};
 ghost use Rattle.mb_channel.specs.Visits.{TellsFates};
 ghost use Rattle.mb_channel.specs.Tallies.{GoesOnTo};
 ghost use Rattle.mb_channel.specs.declared.home.Home.{Home};
@@ -103,6 +103,29 @@ impl<T: Drop> Home<T> {
     }
 }
 
+impl<T: Drop> Audit<T> {
+    /// Makes room for the fates in one segment more, if they are to be kept.
+    fn make_room(&mut self) -> bool
+        ensures room { result ≡ true → HasRoom self.new }
+        ensures same { IsSameAudit self.old self.new }
+    {
+        !self.is_on || self.kept.reserve(1).is_ok()
+    }
+
+    /// Keeps the fates in this segment, which is freed, if the channel is audited.
+    fn keep(&mut self, left: Left<T>)
+        requires room { HasRoom self.old }
+        ensures kept { (gone : List (Home T)) (h : Home T) → KeepsFates gone self.old
+            → TellsFates left (came_back h) → KeepsFates (gone ++ h ∷ []) self.new }
+        ensures on { (self.new.is_on ≡ self.old.is_on) × (self.old.is_on ≡ true
+            → length self.new.kept.items ≡ length self.old.kept.items + 1) }
+    {
+        if self.is_on {
+            self.kept.push_back_reserved(left);
+        }
+    }
+}
+
 impl<T: Drop> Homes<T> {
     /// No segment, in a channel that is audited or not.
     pub(crate) fn none(alloc: Global, audited: bool) -> Homes<T>
@@ -176,7 +199,7 @@ impl<T: Drop> Homes<T> {
         ensures fewer { result ≡ true → length self.new.list.items < length self.old.list.items }
         ensures kept { LosesNone self.old self.new }
     {
-        if self.first >= usize::MAX || (self.audit.is_on && self.audit.kept.reserve(1).is_err()) {
+        if self.first >= usize::MAX || !self.audit.make_room() {
             return false;
         }
         let Some(home) = self.list.pop_front() else {
@@ -185,9 +208,7 @@ impl<T: Drop> Homes<T> {
         match home.free() {
             Ok(left) => {
                 self.first += 1;
-                if self.audit.is_on {
-                    self.audit.kept.push_back_reserved(left);
-                }
+                self.audit.keep(left);
                 true
             }
             Err(home) => {
@@ -208,7 +229,7 @@ impl<T: Drop> Homes<T> {
     /// Takes out the fates in the oldest segment that was freed and is not told.
     pub(crate) fn take_fates(&mut self) -> Option<Fates<T>>
         ensures some { IfSome result (λ f. (hs : List (Home T)) → Stands hs self.old
-            → Stands hs self.new × IsFateOf hs f × (f.segment ≡ told_of self.old)) }
+            → Stands hs self.new × IsFateOf hs f × (told_of self.new ≡ suc f.segment)) }
         ensures none { IfNone result ((self.new ≡ self.old) × (self.old.audit.kept.items ≡ [])) }
     {
         let segment = self.first.saturating_sub(self.audit.kept.len());

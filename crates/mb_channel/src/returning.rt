@@ -81,7 +81,8 @@ impl<T: Drop> Receiver<T> {
             return Err(NotSent { value, why });
         }
         let place = self.known();
-        let mut sender = match self.end.new_sender(self.end.name) {
+        let name = self.end.name;
+        let mut sender = match self.end.new_sender(name) {
             Ok(sender) => sender,
             Err(why) => return Err(NotSent { value, why }),
         };

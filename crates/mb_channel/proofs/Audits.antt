@@ -1,7 +1,7 @@
 -- Fates are kept, taken out and told. They name the ends whose logs have the values.
 use Rattle.std.proofs.Common.{ℕ, zero, suc, Bool, true, false, true≢false, List, [], length, nat_eq, sym, refl, ap, subst, inl, inr, ⊎_elim, arith}
 use Rattle.std.proofs.Common.{◌≡◌, ◌+◌, ◌-◌, ◌⊎◌, ◌∷◌, ◌++◌, ◌∙◌, if◌then◌else◌}
-use Rattle.std.specs.Prelude.{None, Option, Some, map}
+use Rattle.std.specs.Prelude.{IfNone, IfSome, None, Option, Some, map}
 use Rattle.std.proofs.lemmas.List.{append_assoc, length-append}
 use mathlib.Core.Option.{none, some}
 use lib.ListN.{get_elem?}
@@ -15,7 +15,7 @@ use Rattle.mb_channel.specs.Deeds.{Deed, deed}
 use Rattle.mb_channel.specs.Homes.{AllPast, AreFates, AreNamed, IsFreed, IsReady, Keeps, KeepsFates, Made, PastFits, Sat, Stands, TellsFates}
 use Rattle.mb_channel.specs.Homes.{came_back, locked, made_by, made_in, past_of, unlocked}
 use Rattle.mb_channel.specs.Inside.{Log, in_visits, log_of_past}
-use Rattle.mb_channel.specs.Fates.{HasTaken, IsFateOf, IsLog, IsOneOf, IsTrue, chair_after, gives_fates, is_fate, told_fates, told_of}
+use Rattle.mb_channel.specs.Fates.{HasTaken, IsFateOf, IsLog, IsOneOf, IsTaken, IsTrue, chair_after, gives_fates, is_fate, told_fates, told_of}
 use Rattle.mb_channel.proofs.Freed.{all_at, behind}
 use Rattle.mb_channel.proofs.Lengths.{lawful_looked, let_go, looked_same, seat_is}
 use Rattle.mb_channel.proofs.Moves.{unlocks_as}
@@ -111,6 +111,15 @@ module _ {T : Type 0} where
         where
           none_off : l.audit.kept.items ≡ [] → ⊥
           none_off e = let n = ap length e in let m = ap length is in omega arith
+
+  pub taken_out : (r : Option (Fates T)) (hs before : List (Home T)) (l m : Homes T) → Stands hs l → hs ≡ before
+      → IfSome r (λ f. (gs : List (Home T)) → Stands gs l → Stands gs m × IsFateOf gs f × (told_of m ≡ suc f.segment))
+      → IfNone r ((m ≡ l) × (l.audit.kept.items ≡ [])) → Stands before m × IsTaken before m r
+  taken_out (Some f) hs before l m s same some_ none_ = some_ before (subst (λ x. Stands x l) same s)
+  taken_out None hs before l m s same some_ none_ = (
+    subst (λ x. Stands before x) (sym none_.0) (subst (λ x. Stands x l) same s),
+    ap (λ (x : Homes T). x.audit.kept.items) none_.0 ∙ none_.1,
+  )
 
   -- ---- they are told
   pub unlocks_taken : (told : Option (Fates T)) (slots id : ℕ) (me : Sat T) → me.0.live ≡ true → me.0.holds ≡ true
