@@ -116,7 +116,10 @@ module _ {T : Type 0} where
         (λ r. absurd (spent_is_no_member r), λ r. absurd (hub_is_not_spent Spent r refl)))
         (λ (t : (j ≢ other) × (get_elem? one j ≡ some u)). ⊎_elim
         (λ (z : (j ≡ n) × (took_back v w ≡ u)). subst (λ (y : View T). IsCalled k.names (other ∷ k.roll) j y) z.1
-        (λ r. absurd (no_hub v.role r v_role), λ _. ((k.called other w was_other).0 w_role, (k.called n v at).1 v_role)))
+        (
+          λ r. absurd (no_hub v.role r v_role),
+          λ _. ((k.called other w was_other).0 w_role, (k.called n v at).1 v_role),
+        ))
         (λ (z : (j ≢ n) × (get_elem? s.views j ≡ some u)). (
           (k.called j u z.1).0,
           λ r. absurd (z.0 (((k.fits j u z.1).hub_ r).here ∙ sym ((k.fits n v at).hub_ v_role).here)),
