@@ -8,7 +8,7 @@ use Rattle.mb_segment.specs.Vocabulary.{Spot, Taken, Undrawn, View, Waiting, Wri
 use Rattle.mb_segment.proofs.Spots.{below_length, index_at, not_zero, size_set, state_word}
 use Rattle.mb_segment.proofs.Halves.{half_else, no_hub, no_spent, not_both, reads_one}
 use Rattle.mb_segment.proofs.Walks.{looked_still, silent}
-use Rattle.mb_segment.proofs.Kept.{Next, St, at_rest, loaded, moved, now}
+use Rattle.mb_segment.proofs.Kept.{Next, St, loaded, moved, now}
 
 module _ {T : Type 0} (s : St T) (k : Keeps s) (n : ℕ) (v w : View T) (at : get_elem? s.views n ≡ some v)
     (p : Spot T)

@@ -1,5 +1,5 @@
-use Rattle.mb_segment.proofs.Base.{List, [], ap, arith, get_elem?, inl, inr, refl, some, some-injective, some-ne-none}
-use Rattle.mb_segment.proofs.Base.{None, Some, subst, suc, sym, zero, ℕ, ⊎_elim, ◌∷◌, ◌≡◌}
+use Rattle.mb_segment.proofs.Base.{List, arith, get_elem?, inl, inr, refl, some, some-injective, some-ne-none}
+use Rattle.mb_segment.proofs.Base.{subst, suc, sym, zero, ℕ, ⊎_elim, ◌≡◌}
 use Rattle.mb_segment.specs.SegmentSamples.{receiver, sender, with_names}
 use Rattle.mb_segment.specs.Vocabulary.{Account, Has, Spot}
 use Rattle.mb_segment.proofs.Spots.{no_some, same_some}
