@@ -1,7 +1,7 @@
 -- The hub takes a pass back, and the rule holds.
 use Rattle.mb_segment.proofs.Base.{Joins, List, ap, arith, at_set, get_elem?, inl, inr, refl, slice_set, some, subst, sym, ℕ, ⊎_elim}
 use Rattle.mb_segment.proofs.Base.{◌+◌, ◌-◌, ◌∙◌, ◌∷◌, ◌≡◌, ◌≢◌}
-use Rattle.mb_segment.specs.Vocabulary.{Duty, Fits, Half, HasHalf, In, IsCalled, IsMember, Issuer, Keeps, Member, Nothing}
+use Rattle.mb_segment.specs.Vocabulary.{Duty, Fits, Half, HasHalf, IsCalled, IsMember, Issuer, Keeps, Member, Nothing}
 use Rattle.mb_segment.specs.Vocabulary.{Reads, Role, Spent, View, Writes, closing, if_hub, listed, member, no_duty, one_if_member}
 use Rattle.mb_segment.specs.Vocabulary.{out, owed, sleeping, spent, spot, tokens_given, tokens_taken, took_back, total}
 use Rattle.mb_segment.proofs.Totals.{below_total, length_set, one_in_total, there, total_set}
@@ -115,8 +115,10 @@ module _ {T : Type 0} where
         (λ (t : (j ≡ other) × (spent ≡ u)). subst (λ (y : View T). IsCalled k.names (other ∷ k.roll) j y) t.1
         (λ r. absurd (spent_is_no_member r), λ r. absurd (hub_is_not_spent Spent r refl)))
         (λ (t : (j ≢ other) × (get_elem? one j ≡ some u)). ⊎_elim
-        (λ (z : (j ≡ n) × (took_back v w ≡ u)). subst (λ (y : View T). IsCalled k.names (other ∷ k.roll) j y) z.1
-        (λ r. absurd (no_hub v.role r v_role), λ _. ((k.called other w was_other).0 w_role, (k.called n v at).1 v_role)))
+        (λ (z : (j ≡ n) × (took_back v w ≡ u)). subst (λ (y : View T). IsCalled k.names (other ∷ k.roll) j y) z.1 (
+          λ r. absurd (no_hub v.role r v_role),
+          λ _. ((k.called other w was_other).0 w_role, (k.called n v at).1 v_role),
+        ))
         (λ (z : (j ≢ n) × (get_elem? s.views j ≡ some u)). (
           (k.called j u z.1).0,
           λ r. absurd (z.0 (((k.fits j u z.1).hub_ r).here ∙ sym ((k.fits n v at).hub_ v_role).here)),

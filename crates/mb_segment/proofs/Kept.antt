@@ -2,8 +2,8 @@
 use Rattle.mb_segment.proofs.Base.{Act, Allows, List, Option, State, Valid, [], ap, arith, at_set}
 use Rattle.mb_segment.proofs.Base.{carried_after, either, exchanged, false, get_elem?, inl, inr, keeps, length, refl}
 use Rattle.mb_segment.proofs.Base.{set_again, slice_index, slice_set, some}
-use Rattle.mb_segment.proofs.Base.{stepped, subst, sym, true, ℕ, ⊎_elim, ◌*◌, ◌+◌}
-use Rattle.mb_segment.proofs.Base.{◌-◌, ◌<◌, ◌==◌, ◌∙◌, ◌∷◌, ◌≡◌, ◌≢◌, ◌≤◌}
+use Rattle.mb_segment.proofs.Base.{stepped, subst, sym, ℕ, ⊎_elim, ◌*◌, ◌+◌}
+use Rattle.mb_segment.proofs.Base.{◌-◌, ◌<◌, ◌==◌, ◌∙◌, ◌≡◌, ◌≢◌, ◌≤◌}
 use Rattle.mb_segment.specs.Vocabulary.{Account, Called, Duty, Event, Fits, HasLooked, blind, Half, HalfFits, History, Homes, IsCalled, Issuer, Keeps}
 use Rattle.mb_segment.specs.Vocabulary.{Match, Member, Quiet, Reads, Role, Sat, Shut, Taken, Undrawn, View, Waiting}
 use Rattle.mb_segment.specs.Vocabulary.{Writes, closing, cuts_by, drawn, free, got_by, has_cut, if_hub, listed, member}

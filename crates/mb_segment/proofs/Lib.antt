@@ -18,3 +18,4 @@ pub mod Places
 pub mod PassMoves
 pub mod BackMoves
 pub mod Endings
+pub mod Fates

@@ -1,7 +1,7 @@
 -- The store that marks a position, and the look at a mark, keep the rule.
 use Rattle.mb_segment.proofs.Base.{Allows, List, Option, Some, ap, arith, get_elem?, gives, homes_after, inl}
 use Rattle.mb_segment.proofs.Base.{inr, keeps, length, none, refl, rest, set_else, set_here, slice_index}
-use Rattle.mb_segment.proofs.Base.{slice_set, some, some-injective, step, subst, suc, sym, ℕ, ℕ_discrete}
+use Rattle.mb_segment.proofs.Base.{slice_set, some, some-injective, step, subst, sym, ℕ, ℕ_discrete}
 use Rattle.mb_segment.proofs.Base.{⊎_elim, ◌+◌, ◌-◌, ◌<◌, ◌∙◌, ◌∷◌, ◌≡◌, ◌≢◌, ◌≤◌}
 use Rattle.mb_segment.specs.Vocabulary.{AreTrue, Claim, Entry, Half, HalfFits, Homes, Keeps, Member, Nothing, Reads}
 use Rattle.mb_segment.specs.Vocabulary.{Sat, Spot, Taken, Undrawn, View, Waiting, Waits, Writes, all_entries}

@@ -8,7 +8,7 @@ use Rattle.mb_segment.specs.Vocabulary.{Spot, Taken, Undrawn, View, Waiting, Wri
 use Rattle.mb_segment.proofs.Spots.{below_length, index_at, not_zero, size_set, state_word}
 use Rattle.mb_segment.proofs.Halves.{half_else, no_hub, no_spent, not_both, reads_one}
 use Rattle.mb_segment.proofs.Walks.{looked_still, silent}
-use Rattle.mb_segment.proofs.Kept.{Next, St, at_rest, loaded, moved, now}
+use Rattle.mb_segment.proofs.Kept.{Next, St, loaded, moved, now}
 
 module _ {T : Type 0} (s : St T) (k : Keeps s) (n : ℕ) (v w : View T) (at : get_elem? s.views n ≡ some v)
     (p : Spot T)
@@ -118,7 +118,11 @@ module _ {T : Type 0} (s : St T) (k : Keeps s) (n : ℕ) (v : View T) (at : get_
   abbrev then : List ℕ
   then = slice_set s.words (state_word p.at) (said s k n v (ended v) at p half)
 
-  read : Keeps record { words = then; homes = read_homes s k n v (ended v) at p half; views = slice_set s.views n (ended v) }
+  read : Keeps record {
+    words = then;
+    homes = read_homes s k n v (ended v) at p half;
+    views = slice_set s.views n (ended v);
+  }
   read =
       let w = ended v in
       let fit = k.fits n v at in
@@ -209,12 +213,14 @@ module _ {T : Type 0} (s : St T) (k : Keeps s) (n : ℕ) (v : View T) (at : get_
       let f = k.short (by s k n v (ended v) at p half) in let g = k.short n in omega arith
 
 module _ {T : Type 0} where
-  after_read : (s : St T) (n i : ℕ) (me : Sat T) (p : Spot T) (ws : List ℕ)
-      → me.1 ≡ (p.at, None) ∷ rest me.1
-      → Keeps record { words = ws; homes = slice_set s.homes p.at (some None); views = slice_set s.views n (ended me.0) }
-      → Keeps record { words = ws; homes = homes_after s.homes me.1 gives; views = slice_set s.views n (ended me.0) }
-  after_read s n i me p ws held = subst
-      (λ (hs : Homes T). Keeps record { words = ws; homes = hs; views = slice_set s.views n (ended me.0) })
+  -- the words and slots after the step
+  abbrev ends_with : St T → ℕ → View T → List ℕ → Homes T → St T
+  ends_with s n w ws hs = record { words = ws; homes = hs; views = slice_set s.views n w }
+
+  after_read : (s : St T) (n : ℕ) (me : Sat T) (p : Spot T) (ws : List ℕ) → me.1 ≡ (p.at, None) ∷ rest me.1
+      → Keeps (ends_with s n (ended me.0) ws (slice_set s.homes p.at (some None)))
+      → Keeps (ends_with s n (ended me.0) ws (homes_after s.homes me.1 gives))
+  after_read s n me p ws held = subst (λ (hs : Homes T). Keeps (ends_with s n (ended me.0) ws hs))
       (sym (ap (λ (c : List (ℕ × Option T)). homes_after s.homes c gives) held))
 
   pub reads_end : (slots n : ℕ) (me : Sat T) (i : ℕ) (p : Spot T) → me.0.role ≡ Member → me.0.half ≡ Reads p
@@ -225,13 +231,10 @@ module _ {T : Type 0} where
         ended me.0,
         gives,
         tt,
-        after_read s n i me p (slice_set s.words i (slice_index s.words i)) held
+        after_read s n me p (slice_set s.words i (slice_index s.words i)) held
             (loaded record s { homes = slice_set s.homes p.at (some None) } i n me.1 (ended me.0)
-            (subst (λ (ws : List ℕ). Keeps record {
-              words = ws;
-              homes = slice_set s.homes p.at (some None);
-              views = slice_set s.views n (ended me.0);
-            }) same_ (read s k n me.0 at role p half))),
+            (subst (λ (ws : List ℕ). Keeps (ends_with s n (ended me.0) ws (slice_set s.homes p.at (some None))))
+            same_ (read s k n me.0 at role p half))),
         (refl, refl),
       )
 
@@ -243,15 +246,13 @@ module _ {T : Type 0} where
       let r = slice_index s.words i in
       let ii : state_word p.at ≡ i = omega arith in
       let sum_ : said s k n me.0 (ended me.0) at p half ≡ (r + m) % 18446744073709551616
-      = sym (sums s k n me.0 at role p half i r is refl) ∙ ap (λ (y : ℕ). (r + y) % 18446744073709551616) (sym named) in (
+      = sym (sums s k n me.0 at role p half i r is refl)
+      ∙ ap (λ (y : ℕ). (r + y) % 18446744073709551616) (sym named) in (
         ended me.0,
         gives,
         tt,
-        after_read s n i me p (slice_set s.words i ((r + m) % 18446744073709551616)) held
-            (subst (λ (ws : List ℕ). Keeps record {
-              words = ws;
-              homes = slice_set s.homes p.at (some None);
-              views = slice_set s.views n (ended me.0);
-            }) (λ j. slice_set s.words (ii j) (sum_ j)) (read s k n me.0 at role p half)),
+        after_read s n me p (slice_set s.words i ((r + m) % 18446744073709551616)) held
+            (subst (λ (ws : List ℕ). Keeps (ends_with s n (ended me.0) ws (slice_set s.homes p.at (some None))))
+            (λ j. slice_set s.words (ii j) (sum_ j)) (read s k n me.0 at role p half)),
         (refl, refl),
       )

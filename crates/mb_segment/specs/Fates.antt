@@ -24,7 +24,7 @@ fate_in l k = fate_of (slice_index (slots_items l.closed.words) (k + 17))
 
 -- one of these accounts has a value at position k, among those that it sent or those that it got
 abbrev pub Somebody : {T : Type 0} → (Account T → List (Spot T)) → List (Account T) → ℕ → Type 0
-Somebody {T} f accounts k = (i : ℕ) × (a : Account T) × (get_elem? accounts i ≡ some a) × ((x : T) × Has k x (f a))
+Somebody {T} f accounts k = (i : ℕ) × (a : Account T) × (get_elem? accounts i ≡ some a) × (x : T) × Has k x (f a)
 
 -- this is so of each account that has one there
 abbrev pub Each : {T : Type 0} → (Account T → List (Spot T)) → List (Account T) → ℕ → (Account T → Type 0) → Type 0

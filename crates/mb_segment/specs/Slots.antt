@@ -44,7 +44,7 @@ abbrev pub IsTaken : {T : Type 0} → (ℕ → ℕ) → List (View T) → List �
 IsTaken names views states homes k c =
     ((get_elem? states k ≡ some (names c.entry.by + 1)) × HasHalf views c.to (Reads (spot k c.entry.value)))
     ⊎ ((get_elem? states k ≡ some (names c.entry.by + 1 + 4294967296 * names c.to))
-        × (get_elem? homes k ≡ some (some None)))
+    × (get_elem? homes k ≡ some (some None)))
 
 abbrev pub Taken : {T : Type 0} → (ℕ → ℕ) → History T → List (View T) → List ℕ → Homes T → Type 0
 Taken {T} names h views states homes = (k : ℕ) (c : Claim T) → get_elem? h.claims k ≡ some c

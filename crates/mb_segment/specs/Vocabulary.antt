@@ -1,7 +1,6 @@
 -- The names that clauses and proofs use.
 pub use Rattle.mb_segment.specs.Types.{Account, Claimed, Drew, Duty, Event, FoundEmpty, FoundFull, Half, Issuer, Known, Member, Nothing, Reads, Role, Sight, Spent, Spot, Tokens, View, Writes}
-pub use Rattle.mb_segment.specs.History.{Claim, Entry, History, all_entries, cuts_by, drawn, entries, got_by, has_cut, is_of, sent_by, spot}
-pub use Rattle.mb_segment.specs.History.{spots_by, spots_to, taken, values}
+pub use Rattle.mb_segment.specs.History.{Claim, Entry, History, all_entries, cuts_by, drawn, entries, got_by, has_cut, is_of, sent_by, spot, spots_by, spots_to, taken, values}
 pub use Rattle.mb_segment.specs.Walk.{AreTrue, GoesOn, draws, times_empty, times_full, waiting_after}
 pub use Rattle.mb_segment.specs.Sleeping.{Quiet, Shut, closing, free, listed, owed, sleeping, tokens_given, tokens_taken, total}
 pub use Rattle.mb_segment.specs.Slots.{HalfFits, HasHalf, Homes, IsTaken, Taken, Undrawn, Waiting, Waits, row}

@@ -1,6 +1,6 @@
 //! The end of a segment, which tells its whole history.
 ghost use Rattle.std.specs.Prelude.{List, None, Option, Some, [], true, ℕ, ◌<◌, ◌∷◌, ◌≡◌};
-ghost use Rattle.mb_segment.specs.{HasLeft, IsWhole, Issuer, fate_in, hub_view, name_in};
+ghost use Rattle.mb_segment.specs.{HasLeft, IsWhole, Issuer, OfFate, fate_in, hub_view, name_in};
 
 use crate::left::{Fate, Left};
 use crate::list::LISTED;
@@ -10,13 +10,14 @@ use std::alloc::Allocator;
 
 impl<T: Drop, A: Allocator + Drop> Segment<T, A> {
     /// Ends the segment, once the hub has taken back all passes. Their accounts and the values left are those of one
-    /// history.
+    /// history, and the accounts say what became of each value.
     pub fn end(self, hub: Hub<T>) -> Left<T, A>
         requires segment { hub.seat.table_id ≡ self.table.shared.table_id }
         requires hub { (hub_view hub).role ≡ Issuer }
         requires back { (hub_view hub).out ≡ 0 }
         ensures whole { (left : List T) × IsWhole (hub_view hub).ends left × HasLeft result left
             × ((hub_view hub).over ≡ true → left ≡ []) }
+        ensures fates { (k : ℕ) → OfFate (hub_view hub).ends k (fate_in result k) }
     {
         let Hub { seat } = hub;
         let Segment { table, size: _ } = self;

@@ -99,7 +99,9 @@ impl<T: Drop, A: Allocator + Drop> Segment<T, A> {
         ensures hub { hub_view hub.new ≡ took_back (hub_view hub.old) (view_in pass) }
     {
         let Pass { seat } = pass;
-        self.table.shared.join_seat::<TakesBack>(&mut hub.seat, seat);
+        self.table
+            .shared
+            .join_seat::<TakesBack>(&mut hub.seat, seat);
     }
 
     /// The hub looks how many positions are drawn, and learns of them. One access.

@@ -1,6 +1,7 @@
 use Rattle.mb_segment.proofs.Base.{List, [], ap, arith, get_elem?, inl, length, refl, some, some-injective, some-ne-none, subst, suc, sym}
-use Rattle.mb_segment.proofs.Base.{None, zero, ℕ, ⊎_elim, ◌-◌, ◌+◌, ◌∷◌, ◌≡◌, ◌≢◌, ◌≤◌}
-use Rattle.mb_segment.specs.SegmentSamples.{forgotten, giver, overslept, sleeper, taken, unused, with_tokens, woken}
+use Rattle.mb_segment.proofs.Base.{None, false, slice_index, zero, ℕ, ⊎_elim, ◌-◌, ◌+◌, ◌∷◌, ◌≡◌, ◌≢◌, ◌≤◌}
+use Rattle.mb_segment.specs.SegmentSamples.{account, forgotten, giver, marked_as, overslept, sleeper, taken, unused, view, with_tokens, woken}
+use Rattle.mb_segment.specs.Vocabulary.{Has, Spot, all_entries, spot}
 use Rattle.mb_segment.specs.Vocabulary.{Account, Called, Duty, Fits, HasLooked, History, IsCalled, Issuer, Keeps, Member, View, blank, drawn, free, if_hub, listed, member, new_hub, one_if_member, out}
 use Rattle.mb_segment.specs.Vocabulary.{Sight, owes_wake, row, sleeping, takes_token, tokens_given, tokens_taken, with_duty}
 use Rattle.mb_segment.proofs.Halves.{hub_is_no_member, hub_is_not_spent, spent_is_no_member}
@@ -8,7 +9,8 @@ use Rattle.mb_segment.proofs.Kept.{at0, at1, at2}
 use Rattle.mb_segment.proofs.Fitting.{Plain, refit}
 use Rattle.mb_segment.proofs.LookMoves.{none_free}
 use Rattle.mb_segment.proofs.PassMoves.{opens, unseen}
-use Rattle.mb_segment.proofs.Places.{new_open}
+use Rattle.mb_segment.proofs.Places.{drawn_at, new_open}
+use Rattle.mb_segment.proofs.Spots.{index_at, state_word}
 use Rattle.mb_segment.proofs.samples.sample_states.Goals as goal
 
 pub returns-clause-new : goal.returns-clause-new
@@ -35,6 +37,23 @@ pub returns-clause-unpaid : goal.returns-clause-unpaid
 returns-clause-unpaid c k =
     let f = k.fits 0 (with_duty owes_wake new_hub) refl in
     let q = ap (λ (d : Duty). d.wakes) (f.debt hub_is_no_member) in absurd (omega arith)
+
+pub returns-clause-misnamed : goal.returns-clause-misnamed
+returns-clause-misnamed c k =
+    let s = marked_as 7 in
+    let t = at1 s k in
+    let m = (k.fits 1 (view (account (spot 0 10 ∷ []) [] false)) refl).member refl in
+    let d = drawn_at 1 0 10 0 (all_entries k.history)
+    (subst (λ (l : List (Spot ℕ)). Has 0 10 l) m.sent (inl (refl, refl))) in
+    let first : d.0 ≡ 0 = let q = d.2 in omega arith in
+    let at_ = subst (λ (l : ℕ). get_elem? (all_entries k.history) l ≡ some d.1) first d.3 in
+    let says : slice_index k.states 0 ≡ 8 = sym (ap (λ l. slice_index l (state_word 0)) k.words) in
+    let none_ : 0 ≡ k.names 1 = (k.called 1 (view (account (spot 0 10 ∷ []) [] false)) refl).0 refl in
+    let by = ap k.names d.4 in
+    ⊎_elim
+    (λ z. let e = index_at k.states 0 0 z.0 in absurd (omega arith))
+    (λ z. let e = index_at k.states 0 (k.names d.1.by + 1) z.0 in absurd (omega arith))
+    (k.waits 0 d.1 (omega arith) at_)
 
 -- ---- a segment with no position, with tokens or not
 abbrev two_out : View ℕ

@@ -1,7 +1,6 @@
 use Rattle.mb_segment.proofs.Base.{Option, Some, ap, arith, slice_index, suc, sym, zero, ℕ, ◌%◌, ◌+◌, ◌-◌, ◌<◌, ◌∙◌, ◌≡◌}
 use Rattle.std.specs.Prelude.{◌/◌}
 use Rattle.std.specs.Mem.Slots.{slots_items}
-use Rattle.mb_segment.specs.declared.left.Fate.{Fate}
 use Rattle.mb_segment.specs.Vocabulary.{fate_of, name_in}
 use Rattle.mb_segment.proofs.Spots.{index_at}
 use Rattle.mb_segment.proofs.left.Left.fate.Goals as goal

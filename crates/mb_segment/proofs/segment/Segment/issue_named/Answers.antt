@@ -1,6 +1,4 @@
-use Rattle.std.proofs.Common.{arith, subst, sym, ℕ, ◌<◌}
-use Rattle.atomic_table.specs.Table.{Splits}
-use Rattle.mb_segment.specs.Vocabulary.{Keeps, issued, named}
+use Rattle.std.proofs.Common.{arith}
 use Rattle.mb_segment.proofs.PassMoves.{splits}
 use Rattle.mb_segment.proofs.segment.Segment.issue_named.Goals as goal
 

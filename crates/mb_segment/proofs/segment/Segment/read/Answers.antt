@@ -1,5 +1,5 @@
-use Rattle.std.proofs.Common.{List, ap, arith, sym, ℕ, ◌*◌, ◌∙◌, ◌∷◌, ◌≡◌}
-use Rattle.std.specs.Prelude.{None, Option, Some}
+use Rattle.std.proofs.Common.{ap, arith, sym, ◌*◌, ◌∙◌, ◌∷◌}
+use Rattle.std.specs.Prelude.{Option, Some}
 use Rattle.atomic_table.specs.Table.{rest}
 use Rattle.mb_segment.specs.Vocabulary.{spot}
 use Rattle.mb_segment.proofs.ReadMoves.{reads_end, reads_say}
