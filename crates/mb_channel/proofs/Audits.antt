@@ -1,6 +1,5 @@
 -- Fates are kept, taken out and told. They name the ends whose logs have the values.
-use Rattle.std.proofs.Common.{ℕ, zero, suc, Bool, true, false, true≢false, List, [], length, nat_eq, sym, refl, ap, subst, inl, inr, ⊎_elim, arith}
-use Rattle.std.proofs.Common.{◌≡◌, ◌+◌, ◌-◌, ◌⊎◌, ◌∷◌, ◌++◌, ◌∙◌, if◌then◌else◌}
+use Rattle.std.proofs.Common.{ℕ, zero, suc, Bool, true, false, true≢false, List, [], length, nat_eq, sym, refl, ap, subst, inl, inr, ⊎_elim, arith, ◌≡◌, ◌+◌, ◌-◌, ◌⊎◌, ◌∷◌, ◌++◌, ◌∙◌, if◌then◌else◌}
 use Rattle.std.specs.Prelude.{IfNone, IfSome, None, Option, Some, map}
 use Rattle.std.proofs.lemmas.List.{append_assoc, length-append}
 use mathlib.Core.Option.{none, some}
@@ -9,13 +8,13 @@ use Rattle.atomic_table.specs.Table.{Allows, State, Step, step}
 use Rattle.atomic_table.specs.declared.shared.Seat.{Seat}
 use Rattle.atomic_table.proofs.Lists.{at_longer}
 use Rattle.mb_segment.specs.Vocabulary.{Has, name_in}
-use Rattle.mb_segment.specs.declared.left.Fate.{Fate}
 use Rattle.mb_channel.specs.Types.{Account, Audit, Fates, Global, Home, Homes, Knows, Left, Past, Position, Visit}
 use Rattle.mb_channel.specs.Deeds.{Deed, deed}
+use Rattle.mb_channel.specs.Owned.{Fate}
 use Rattle.mb_channel.specs.Homes.{AllPast, AreFates, AreNamed, IsFreed, IsReady, Keeps, KeepsFates, Made, PastFits, Sat, Stands, TellsFates}
 use Rattle.mb_channel.specs.Homes.{came_back, locked, made_by, made_in, past_of, unlocked}
 use Rattle.mb_channel.specs.Inside.{Log, in_visits, log_of_past}
-use Rattle.mb_channel.specs.Fates.{HasTaken, IsFateOf, IsLog, IsOneOf, IsTaken, IsTrue, chair_after, gives_fates, is_fate, told_fates, told_of}
+use Rattle.mb_channel.specs.Fates.{HasTaken, IsFateOf, IsLog, IsOneOf, IsTaken, IsTrue, gives_fates, is_fate, told_fates, told_of}
 use Rattle.mb_channel.proofs.Freed.{all_at, behind}
 use Rattle.mb_channel.proofs.Lengths.{lawful_looked, let_go, looked_same, seat_is}
 use Rattle.mb_channel.proofs.Moves.{unlocks_as}
@@ -246,8 +245,8 @@ module _ {T : Type 0} where
       )
 
   -- the fates of a segment name the ends whose logs have its values
-  pub fates_true : (s : State (Homes T) (Knows T)) (k : Keeps s) (f : Fates T) → IsFateOf k.homes f → (at : ℕ) (x : Fate)
-      → is_fate f at ≡ Some x → IsTrue s.views f.segment at x
+  pub fates_true : (s : State (Homes T) (Knows T)) (k : Keeps s) (f : Fates T) → IsFateOf k.homes f → (at : ℕ)
+      (x : Fate) → is_fate f at ≡ Some x → IsTrue s.views f.segment at x
   fates_true s k f is at x e = λ l y log.
       let h = is.0 in
       let here = k.agrees.here f.segment h is.1 in

@@ -219,7 +219,8 @@ module _ {T : Type 0} where
   came_where a p h g did = did.3 ∙ g.same ∙ ap (λ (s : Segment T Global). s.table.shared.table_id) (sym did.2)
 
   -- the segment whose hub issued a pass
-  pub issued_of : (n : ℕ) (r : Option (Arc (Segment T Global) Global × Pass T)) (hs : List (Home T)) (k : ℕ) (h g : Home T)
+  pub issued_of : (n : ℕ) (r : Option (Arc (Segment T Global) Global × Pass T)) (hs : List (Home T)) (k : ℕ)
+      (h g : Home T)
       → get_elem? hs k ≡ some h → IfSome r (λ r. HasIssued h g r.0 r.1)
       → IfSome r (λ r. (pass_view r.1 ≡ named n) × IsCalmPass r.1)
       → IfSome r (λ r. Changes hs (slice_set hs k g) k (λ h g. HasIssued h g r.0 r.1) × (pass_view r.1 ≡ named n)

@@ -42,8 +42,8 @@ module _ {T : Type 0} where
   all_homes [] P f = tt
   all_homes (h ∷ hs) P f = (f 0 h refl, all_homes hs P (λ k u e. f (suc k) u e))
 
-  pub all_at : (P : Home T → Type 0) (hs : List (Home T)) → AllHomes P hs → (k : ℕ) (h : Home T) → get_elem? hs k ≡ some h
-      → P h
+  pub all_at : (P : Home T → Type 0) (hs : List (Home T)) → AllHomes P hs → (k : ℕ) (h : Home T)
+      → get_elem? hs k ≡ some h → P h
   all_at P [] all k h e = absurd (some-ne-none h (sym e))
   all_at P (x ∷ xs) all zero h e = subst P (mathlib.Core.Option.some-injective x h e) all.0
   all_at P (x ∷ xs) all (suc k) h e = all_at P xs all.1 k h e
@@ -187,8 +187,10 @@ module _ {T : Type 0} where
   }
 
   pub stands_freed : (hs : List (Home T)) (l m : Homes T) (h : Home T) (s : Stands hs l)
-      → l.list.items ≡ h ∷ m.list.items → IsFreed h → m.first ≡ l.first + 1 → KeepsFates (s.gone ++ h ∷ []) m.audit → Stands hs m
-  stands_freed hs l m h s is done more fates = let number = s.number in let n = length-append s.gone (h ∷ []) in record {
+      → l.list.items ≡ h ∷ m.list.items → IsFreed h → m.first ≡ l.first + 1 → KeepsFates (s.gone ++ h ∷ []) m.audit
+      → Stands hs m
+  stands_freed hs l m h s is done more fates = let number = s.number in
+      let n = length-append s.gone (h ∷ []) in record {
     gone = s.gone ++ h ∷ [];
     all = s.all ∙ ap (λ x. s.gone ++ x) is ∙ sym (append_assoc s.gone (h ∷ []) m.list.items);
     number = omega arith;
@@ -206,7 +208,8 @@ module _ {T : Type 0} where
   longer_of (Err e) n hs l m s long more first Q f = tt
 
   pub same_of : {A E : Type 0} (r : Result A E) (hs : List (Home T)) (l m : Homes T) → Stands hs l
-      → OnErr r (m.list.items ≡ l.list.items) → (m.first ≡ l.first) × (m.audit ≡ l.audit) → (Q : Type 0) → (Stands hs m → Q) → OnErr r Q
+      → OnErr r (m.list.items ≡ l.list.items) → (m.first ≡ l.first) × (m.audit ≡ l.audit) → (Q : Type 0)
+      → (Stands hs m → Q) → OnErr r Q
   same_of (Ok u) hs l m s same first Q f = tt
   same_of (Err e) hs l m s same first Q f = f (stands_same hs l m s same first)
 

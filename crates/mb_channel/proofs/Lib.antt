@@ -18,6 +18,7 @@ mod LogsTold
 mod Members
 mod Moves
 mod Order
+mod Owners
 mod Places
 mod Remembers
 mod Rests

@@ -116,7 +116,8 @@ module _ {T : Type 0} where
       → (me.0.takes ≡ false → x.account.got ≡ []) → x.account.name ≡ me.0.name
       → MayGive (left_segment x done) slots id me
   unlocks_left x done slots id me y hs stands carried live holds inside h g at is same keeps_ stays back out next over
-      poor name = unlocks (left_segment x done) slots id me y hs stands carried live holds refl refl refl refl refl refl refl refl
+      poor name = unlocks (left_segment x done) slots id me y hs stands carried live holds refl refl refl refl refl refl
+      refl refl
       (λ s k at' part before.
       let v = me.0 in
       let a = x.account in

@@ -13,7 +13,7 @@ use Rattle.mb_channel.proofs.Views.{in_none, once_more, only, past_map, two_belo
 use Rattle.mb_channel.proofs.Back.{knows_nothing}
 use Rattle.mb_channel.proofs.Moves.{has_part, not_back}
 
-abbrev is_one : ℕ → ℕ → ℕ
+abbrev pub is_one : ℕ → ℕ → ℕ
 is_one n m = if nat_eq m n then 1 else 0
 
 no_times : {A : Type 0} (n : ℕ) (xs : List A) → n ≡ 0 → times n xs ≡ 0

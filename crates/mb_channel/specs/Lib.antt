@@ -3,6 +3,7 @@ pub mod ChannelSamples
 pub mod Segments
 pub mod Stays
 pub mod Types
+pub mod Owned
 pub mod Fates
 pub mod Visits
 pub mod Deeds

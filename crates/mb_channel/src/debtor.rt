@@ -45,7 +45,7 @@ pub enum Step<T: Drop> {
 }
 
 impl<T: Drop> End<T> {
-    ghost use Rattle.std.specs.Prelude.{is_some};
+    ghost use Rattle.std.specs.Prelude.{is_some, true};
     ghost use Rattle.mb_channel.specs.declared.debtor.Step.TheVariants as step;
     ghost use Rattle.mb_channel.specs.Ends.{stand_of};
     ghost use Rattle.mb_channel.specs.Standing.{OfStep};
@@ -60,6 +60,16 @@ impl<T: Drop> End<T> {
         if self.inside.is_none() {
             return Step::Over(self, value);
         }
+        self.send_inside(value)
+    }
+
+    /// The same of an end that is in a segment.
+    #[inline(always)]
+    fn send_inside(self, value: T) -> Step<T>
+        requires inside { is_some self.inside ≡ true }
+        ensures answer { OfStep result value (stand_of self) }
+        ensures wakes { Tells 0 (wakes_of self) (after_step result) }
+    {
         let (at, rights, name, over) = (self.at, self.rights, self.name, self.over);
         let End {
             list,

@@ -217,21 +217,18 @@ impl<T: Drop> KeptSender<T> {
             };
             return Ok(Sender { end });
         };
-        match busy.rest() {
-            Ok(inside) => Ok(Sender {
-                end: End {
-                    list,
-                    chair,
-                    at,
-                    rights,
-                    name,
-                    inside: Some(inside),
-                    over,
-                    behind,
-                },
-            }),
-            Err(_) => unreachable!(),
-        }
+        let Ok(inside) = busy.rest() else { unreachable!() };
+        let end = End {
+            list,
+            chair,
+            at,
+            rights,
+            name,
+            inside: Some(inside),
+            over,
+            behind,
+        };
+        Ok(Sender { end })
     }
 
     /// What the sender owes.

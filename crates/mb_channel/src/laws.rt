@@ -7,7 +7,6 @@ ghost use Rattle.mb_channel.specs.ChannelTheorem.{EachMoment, End, History, Mome
 ghost use Rattle.mb_channel.specs.Stays.{AreStays, Told, life_of};
 ghost use Rattle.mb_channel.specs.Types.{Fates, Home, Homes, Knows};
 ghost use Rattle.mb_segment.specs.Vocabulary.{FindsEmpty, SegmentState};
-ghost use Rattle.mb_segment.specs.declared.left.Fate.{Fate};
 ghost use Rattle.mb_channel.specs.Closing.{AreStates, IsClosedOff, IsFinished, ListState, NoneWaits};
 ghost use Rattle.mb_channel.specs.Homes.{AllHomes, At, IsShut, IsWhole, Keeps, Sat, sends, total};
 ghost use Rattle.mb_channel.specs.Inside.{Log};
@@ -16,11 +15,10 @@ ghost use Rattle.mb_channel.specs.Returned.{OneReturned};
 ghost use Rattle.mb_channel.specs.Segments.{AreLogs, EachKeeps, InTurn, KeepsEnd};
 ghost use Rattle.mb_channel.specs.States.{OnlyReceiversTake, moment_of};
 ghost use Rattle.mb_channel.specs.Tallies.{sees_senders};
-ghost use Rattle.mb_channel.specs.Fates.{HasTaken, IsFateOf, IsTrue, gives_fates, is_fate};
+ghost use Rattle.mb_channel.specs.Owned.{Fate, HasTaken, IsFateOf, IsOwned, IsTrue, Place, gives_fates, is_fate};
 ghost use Rattle.mb_channel.specs.Lengths.{HasSummed, IsKnown, gives_length};
 ghost use Rattle.mb_channel.specs.Deeds.{Deed, IsUpTo, OneMore};
 ghost use Rattle.mb_channel.specs.Told.{AllTell, KeepsOrder, index};
-ghost use Rattle.mb_channel.specs.declared.place.Place.{Place};
 
 /// At each moment: if each segment keeps its own rule, and they follow each other in turn, the channel's points hold.
 pub fn moments_keep_the_theorem<T>()
@@ -121,13 +119,15 @@ pub fn length_is_true<T: Drop>()
 }
 
 /// Of the moment at which an end is told fates, or that none are kept: it gives the channel's list back, out of which they
-/// were taken. They are those in a segment that is freed. Each fate names the end whose log has its value.
+/// were taken. They are those in a segment that is freed. A fate names any end whose log has its value, and there is one.
 pub fn fates_are_true<T: Drop>()
     ensures list { (c : ListState T) (k : Keeps c) (id r : ℕ) (told : Option (Fates T))
         (s : Step (Homes T)) (v w : Sat T)
         → get_elem? c.views id ≡ some v.0 → gives_fates told s v r w → HasTaken k.homes told v.1 }
     ensures names { (c : ListState T) (k : Keeps c) (f : Fates T) (at : ℕ) (x : Fate)
         → IsFateOf k.homes f → is_fate f at ≡ Some x → IsTrue c.views f.segment at x }
+    ensures owners { (c : ListState T) (k : Keeps c) (f : Fates T) (at : ℕ) (x : Fate)
+        → IsFateOf k.homes f → is_fate f at ≡ Some x → IsOwned c.views f.segment at x }
 {}
 
 /// Of the moment at which a pass counts that it found nothing, in the segment where a receiver is: nothing waits in any

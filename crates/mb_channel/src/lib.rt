@@ -10,7 +10,8 @@
 //! - [`Sender::known`] and [`Receiver::known`] say how far an end knows. [`Sender::learn`] and [`Receiver::learn`] tell
 //!   that to another end. If they answer `true`, its later calls stand behind that [`Place`].
 //! - [`Receiver::give_back`] gives a value back to the end of the one order.
-//! - [`audited`] gives a channel whose ends have names. [`Sender::try_fates`] tells who sent each value, and who received it.
+//! - [`audited`] gives a channel whose ends have names. [`Sender::try_fates`] tells who sent each value, and who received
+//!   it.
 //! - [`Receiver::give_sender`] and [`Receiver::give_receiver`] take an end back. [`Receiver::end`] ends the channel by
 //!   its last one.
 //!

@@ -156,8 +156,8 @@ impl<T: Drop> End<T> {
         Err(Refused::Crowded)
     }
 
-    /// A new sender, of this name, which begins where this end is. It is refused if so many ends were made that they cannot
-    /// be counted, or, by [`Refused::Closed`], if no sender is left, which the end then knows.
+    /// A new sender, of this name, which begins where this end is. It is refused if so many ends were made that they
+    /// cannot be counted, or, by [`Refused::Closed`], if no sender is left, which the end then knows.
     pub(crate) fn new_sender(&mut self, name: u32) -> Result<Sender<T>, Refused>
         requires name { name < 4294967295 }
         ensures end { IsSame self.old self.new }

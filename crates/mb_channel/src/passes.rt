@@ -192,8 +192,8 @@ impl<T: Drop> Homes<T> {
         Ok(())
     }
 
-    /// Frees the oldest segment, if it is done and nobody has a pass or a share of it. If the channel is audited, its fates
-    /// are kept, and it stays if the allocator refuses the memory for them.
+    /// Frees the oldest segment, if it is done and nobody has a pass or a share of it. If the channel is audited, its
+    /// fates are kept, and it stays if the allocator refuses the memory for them.
     fn free_first(&mut self) -> bool
         ensures stands { (hs : List (Home T)) → Stands hs self.old → Stands hs self.new }
         ensures fewer { result ≡ true → length self.new.list.items < length self.old.list.items }
@@ -233,7 +233,9 @@ impl<T: Drop> Homes<T> {
         ensures none { IfNone result ((self.new ≡ self.old) × (self.old.audit.kept.items ≡ [])) }
     {
         let segment = self.first.saturating_sub(self.audit.kept.len());
-        let left = self.audit.kept.pop_front()?;
+        let Some(left) = self.audit.kept.pop_front() else {
+            return None;
+        };
         Some(Fates { segment, left })
     }
 }
