@@ -1,5 +1,6 @@
 -- Fates are kept, taken out and told. They name the ends whose logs have the values.
-use Rattle.std.proofs.Common.{ℕ, zero, suc, Bool, true, false, true≢false, List, [], length, nat_eq, sym, refl, ap, subst, inl, inr, ⊎_elim, arith, ◌≡◌, ◌+◌, ◌-◌, ◌⊎◌, ◌∷◌, ◌++◌, ◌∙◌, if◌then◌else◌}
+use Rattle.std.proofs.Common.{ℕ, zero, suc, Bool, true, false, true≢false, List, [], drop, length, nat_eq}
+use Rattle.std.proofs.Common.{sym, refl, ap, subst, inl, inr, ⊎_elim, arith, ◌≡◌, ◌+◌, ◌-◌, ◌⊎◌, ◌∷◌, ◌++◌, ◌∙◌, if◌then◌else◌}
 use Rattle.std.specs.Prelude.{IfNone, IfSome, None, Option, Some, map}
 use Rattle.std.proofs.lemmas.List.{append_assoc, length-append}
 use mathlib.Core.Option.{none, some}
@@ -10,15 +11,24 @@ use Rattle.atomic_table.proofs.Lists.{at_longer}
 use Rattle.mb_segment.specs.Vocabulary.{Has, name_in}
 use Rattle.mb_channel.specs.Types.{Account, Audit, Fates, Global, Home, Homes, Knows, Left, Past, Position, Visit}
 use Rattle.mb_channel.specs.Deeds.{Deed, deed}
-use Rattle.mb_channel.specs.Owned.{Fate}
 use Rattle.mb_channel.specs.Homes.{AllPast, AreFates, AreNamed, IsFreed, IsReady, Keeps, KeepsFates, Made, PastFits, Sat, Stands, TellsFates}
 use Rattle.mb_channel.specs.Homes.{came_back, locked, made_by, made_in, past_of, unlocked}
 use Rattle.mb_channel.specs.Inside.{Log, in_visits, log_of_past}
-use Rattle.mb_channel.specs.Fates.{HasTaken, IsFateOf, IsLog, IsOneOf, IsTaken, IsTrue, gives_fates, is_fate, told_fates, told_of}
+use Rattle.mb_channel.specs.Owned.{Fate, HasTaken, IsFateOf, IsLog, IsOneOf, IsTaken, IsTrue, LosesNone, gives_fates, is_fate, told_fates, told_of}
 use Rattle.mb_channel.proofs.Freed.{all_at, behind}
 use Rattle.mb_channel.proofs.Lengths.{lawful_looked, let_go, looked_same, seat_is}
 use Rattle.mb_channel.proofs.Moves.{unlocks_as}
 use Rattle.mb_channel.proofs.Views.{in_own}
+
+module _ {A : Type 0} where
+  none_first : (xs ys : List A) → xs ≡ ys → ys ≡ drop 1 xs → ys ≡ []
+  none_first [] ys e d = sym e
+  none_first (x ∷ xs) ys e d = let n = ap length (e ∙ d) in absurd (omega arith)
+
+  one_append : (a : A) (xs ys : List A) → IsOneOf a (xs ++ ys) → IsOneOf a xs ⊎ IsOneOf a ys
+  one_append a [] ys is = inr is
+  one_append a (x ∷ xs) ys is = ⊎_elim (λ e. inl (inl e))
+      (λ r. ⊎_elim (λ x. inl (inr x)) (λ y. inr y) (one_append a xs ys r)) is
 
 module _ {T : Type 0} where
   -- ---- a segment is freed
@@ -60,6 +70,9 @@ module _ {T : Type 0} where
     subst (λ xs. AreFates k.1 xs) (sym same) k.3,
     λ off. same ∙ k.4 (sym on ∙ off),
   )
+
+  pub loses_on : (l m n : Homes T) → LosesNone l m → LosesNone m n → LosesNone l n
+  loses_on l m n a b = (b.0 ∙ a.0, λ on. b.1 (a.0 ∙ on) ∙ a.1 on)
 
   -- ---- fates are taken out
   fates_long : (hs : List (Home T)) (xs : List (Left T Global)) → AreFates hs xs → length xs ≡ length hs
@@ -111,14 +124,34 @@ module _ {T : Type 0} where
           none_off : l.audit.kept.items ≡ [] → ⊥
           none_off e = let n = ap length e in let m = ap length is in omega arith
 
+  -- the list has room for them, or nothing was there to take out
+  pub stands_still : (hs : List (Home T)) (l m : Homes T) → Stands hs l → m.first ≡ l.first
+      → m.list.items ≡ l.list.items → m.audit.is_on ≡ l.audit.is_on → m.audit.kept.items ≡ l.audit.kept.items
+      → Stands hs m
+  stands_still hs l m s first list on kept = record {
+    gone = s.gone;
+    all = s.all ∙ ap (λ x. s.gone ++ x) (sym list);
+    number = s.number ∙ sym first;
+    freed = s.freed;
+    fates = keeps_still s.gone l.audit m.audit on kept s.fates;
+  }
+
+  pub nothing_out : (l m : Homes T) → l.audit.kept.items ≡ m.audit.kept.items
+      → m.audit.kept.items ≡ drop 1 l.audit.kept.items → m.first ≡ l.first → m.list.items ≡ l.list.items
+      → m.audit.is_on ≡ l.audit.is_on
+      → (m.audit.kept.items ≡ []) × ((hs : List (Home T)) → Stands hs l → Stands hs m)
+  nothing_out l m same rest first list on = (
+    none_first l.audit.kept.items m.audit.kept.items same rest,
+    λ hs s. stands_still hs l m s first list on (sym same),
+  )
+
   pub taken_out : (r : Option (Fates T)) (hs before : List (Home T)) (l m : Homes T) → Stands hs l → hs ≡ before
       → IfSome r (λ f. (gs : List (Home T)) → Stands gs l → Stands gs m × IsFateOf gs f × (told_of m ≡ suc f.segment))
-      → IfNone r ((m ≡ l) × (l.audit.kept.items ≡ [])) → Stands before m × IsTaken before m r
-  taken_out (Some f) hs before l m s same some_ none_ = some_ before (subst (λ x. Stands x l) same s)
-  taken_out None hs before l m s same some_ none_ = (
-    subst (λ x. Stands before x) (sym none_.0) (subst (λ x. Stands x l) same s),
-    ap (λ (x : Homes T). x.audit.kept.items) none_.0 ∙ none_.1,
-  )
+      → IfNone r ((m.audit.kept.items ≡ []) × ((gs : List (Home T)) → Stands gs l → Stands gs m))
+      → Stands before m × IsTaken before m r
+  taken_out (Some f) hs before l m s same some_ none_ = let x = some_ before (subst (λ x. Stands x l) same s) in
+      (x.0, (x.1, x.2))
+  taken_out None hs before l m s same some_ none_ = (none_.1 before (subst (λ x. Stands x l) same s), none_.0)
 
   -- ---- they are told
   pub unlocks_taken : (told : Option (Fates T)) (slots id : ℕ) (me : Sat T) → me.0.live ≡ true → me.0.holds ≡ true
@@ -137,19 +170,17 @@ module _ {T : Type 0} where
       (λ free. absurd (true≢false (sym gives.1 ∙ free.4 id m.0 at)))
       (λ held. (held.3 id m.0 at gives.1).1) k.lock) gives.2
 
+  abbrev pub told_chair : Option (Fates T) → Seat (Homes T) (Knows T) → Seat (Homes T) (Knows T)
+  told_chair told p = record p { me = (told_fates told p.me.0, p.me.1) }
+
   pub after_taken : (told : Option (Fates T)) (hs : List (Home T)) (p q : Seat (Homes T) (Knows T)) (v : Knows T)
       → (q.table_id ≡ p.table_id) × (q.id ≡ p.id) → IsReady p.me → v ≡ locked hs p.me.0
-      → q.me ≡ (told_fates told (unlocked v), []) → q ≡ record p { me = (told_fates told p.me.0, p.me.1) }
-  after_taken told hs p q v same ready is me = seat_is (record p { me = (told_fates told p.me.0, p.me.1) }) q same (me
+      → q.me ≡ (told_fates told (unlocked v), []) → q ≡ told_chair told p
+  after_taken told hs p q v same ready is me = seat_is (told_chair told p) q same (me
       ∙ ap (λ u. (told_fates told u, [])) (ap (λ u. unlocked u) is ∙ let_go p.me hs ready)
       ∙ ap (λ c. (told_fates told p.me.0, c)) (sym ready.3))
 
   -- ---- a log comes from the accounts that the hubs know
-  one_append : {A : Type 0} (a : A) (xs ys : List A) → IsOneOf a (xs ++ ys) → IsOneOf a xs ⊎ IsOneOf a ys
-  one_append a [] ys is = inr is
-  one_append a (x ∷ xs) ys is = ⊎_elim (λ e. inl (inl e))
-      (λ r. ⊎_elim (λ x. inl (inr x)) (λ y. inr y) (one_append a xs ys r)) is
-
   abbrev call : ℕ → ℕ → T → Deed T
   call k p y = record { place = record { segment = k; number = p }; value = y }
 
@@ -184,18 +215,17 @@ module _ {T : Type 0} where
       → (i : ℕ) × (get_elem? (made_in u.segment all) i ≡ some u.account)
   made_visit n [] u is = absurd is
   made_visit n (m ∷ ms) u is = go (nat_eq m.by n) is
+      (λ r. let x = made_visit n ms u r in made_more u.segment m ms x.0 u.account x.1)
     where
-      more : IsOneOf u (made_by n ms) → (i : ℕ) × (get_elem? (made_in u.segment (m ∷ ms)) i ≡ some u.account)
-      more r = let x = made_visit n ms u r in made_more u.segment m ms x.0 u.account x.1
-
       go : (b : Bool) → IsOneOf u (if b then m.visit ∷ made_by n ms else made_by n ms)
+          → (IsOneOf u (made_by n ms) → (i : ℕ) × (get_elem? (made_in u.segment (m ∷ ms)) i ≡ some u.account))
           → (i : ℕ) × (get_elem? (made_in u.segment (m ∷ ms)) i ≡ some u.account)
-      go true r = ⊎_elim (λ (e : u ≡ m.visit). (
+      go true r more = ⊎_elim (λ (e : u ≡ m.visit). (
         0,
         subst (λ (z : Visit T). get_elem? (made_in z.segment (m ∷ ms)) 0 ≡ some z.account) (sym e)
             (ap (λ l. get_elem? l 0) (in_own m.visit.segment m ms refl)),
       )) more r
-      go false r = more r
+      go false r more = more r
 
   -- each call of the list is in an account of this name
   abbrev Comes : (Account T → List (Position T)) → List (Made T) → ℕ → List (Deed T) → Type 0

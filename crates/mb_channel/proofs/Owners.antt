@@ -59,20 +59,19 @@ module _ {T : Type 0} where
   visited : (all : List (Made T)) (k : ℕ) (a : Account T) → IsOneOf a (made_in k all) → Visited all k a
   visited [] k a is = absurd is
   visited (m ∷ ms) k a is = go (nat_eq m.visit.segment k) refl is
+      (λ r. let x = visited ms k a r in (x.0, x.1, by_more x.0 m ms x.1 x.2, x.3, x.4))
     where
-      more : IsOneOf a (made_in k ms) → Visited (m ∷ ms) k a
-      more r = let x = visited ms k a r in (x.0, x.1, by_more x.0 m ms x.1 x.2, x.3, x.4)
-
       go : (b : Bool) → nat_eq m.visit.segment k ≡ b
-          → IsOneOf a (if b then m.visit.account ∷ made_in k ms else made_in k ms) → Visited (m ∷ ms) k a
-      go true e r = ⊎_elim (λ (q : a ≡ m.visit.account). (
+          → IsOneOf a (if b then m.visit.account ∷ made_in k ms else made_in k ms)
+          → (IsOneOf a (made_in k ms) → Visited (m ∷ ms) k a) → Visited (m ∷ ms) k a
+      go true e r more = ⊎_elim (λ (q : a ≡ m.visit.account). (
         m.by,
         m.visit,
         subst (IsOneOf m.visit) (sym (by_own m ms)) (inl refl),
         eqb-true m.visit.segment k e,
         sym q,
       )) more r
-      go false e r = more r
+      go false e r more = more r
 
   in_deeds : (k p : ℕ) (y : T) (ps : List (Position T)) → Has p y ps → IsOneOf (call k p y) (map (deed k) ps)
   in_deeds k p y [] has = absurd has
@@ -107,25 +106,30 @@ module _ {T : Type 0} where
   some_total : (f : Knows T → ℕ) (views : List (Knows T)) → 0 < total f views
       → (j : ℕ) × (u : Knows T) × (get_elem? views j ≡ some u) × (0 < f u)
   some_total f [] more = absurd (omega arith)
-  some_total f (v ∷ vs) more = go (f v) refl
+  some_total f (v ∷ vs) more = go (f v) refl (λ r. let x = some_total f vs r in (suc x.0, x.1, x.2, x.3))
     where
-      go : (n : ℕ) → f v ≡ n → (j : ℕ) × (u : Knows T) × (get_elem? (v ∷ vs) j ≡ some u) × (0 < f u)
-      go zero e = let x = some_total f vs (omega arith) in (suc x.0, x.1, x.2, x.3)
-      go (suc n) e = (0, v, refl, omega arith)
+      go : (n : ℕ) → f v ≡ n
+          → (0 < total f vs → (j : ℕ) × (u : Knows T) × (get_elem? (v ∷ vs) j ≡ some u) × (0 < f u))
+          → (j : ℕ) × (u : Knows T) × (get_elem? (v ∷ vs) j ≡ some u) × (0 < f u)
+      go zero e rec = rec (omega arith)
+      go (suc n) e rec = (0, v, refl, omega arith)
+
+  no_times : (n m : ℕ) (xs : List (Visit T)) → is_one n m ≡ 0 → times (is_one n m) xs ≡ 0
+  no_times n m [] q = refl
+  no_times n m (x ∷ xs) q = let r = no_times n m xs q in omega arith
 
   some_past : (n : ℕ) (ps : List (Past T)) → 0 < past_count (is_one n) ps
       → (p : Past T) × IsOneOf p ps × (p.number ≡ n)
   some_past n [] more = absurd (omega arith)
   some_past n (p ∷ ps) more = go (nat_eq p.number n) refl
+      (λ r. let x = some_past n ps r in (x.0, inr x.1, x.2))
     where
-      go : (b : Bool) → nat_eq p.number n ≡ b → (q : Past T) × IsOneOf q (p ∷ ps) × (q.number ≡ n)
-      go true e = (p, inl refl, eqb-true p.number n e)
-      go false e = let z = no_times p.visits (ap (λ (b : Bool). if b then 1 else 0) e) in
-          let x = some_past n ps (omega arith) in (x.0, inr x.1, x.2)
-        where
-          no_times : (xs : List (Visit T)) → is_one n p.number ≡ 0 → times (is_one n p.number) xs ≡ 0
-          no_times [] q = refl
-          no_times (x ∷ xs) q = let r = no_times xs q in omega arith
+      go : (b : Bool) → nat_eq p.number n ≡ b
+          → (0 < past_count (is_one n) ps → (q : Past T) × IsOneOf q (p ∷ ps) × (q.number ≡ n))
+          → (q : Past T) × IsOneOf q (p ∷ ps) × (q.number ≡ n)
+      go true e rec = (p, inl refl, eqb-true p.number n e)
+      go false e rec = let z = no_times n p.number p.visits (ap (λ (b : Bool). if b then 1 else 0) e) in
+          rec (omega arith)
 
   past_at : (P : Past T → Type 0) (ps : List (Past T)) (p : Past T) → AllPast P ps → IsOneOf p ps → P p
   past_at P [] p all is = absurd is
@@ -134,13 +138,9 @@ module _ {T : Type 0} where
   own_visits : (n m : ℕ) (vs : List (Visit T)) → 0 < times (is_one n m) vs → (m ≡ n) × (vs ≡ [] → ⊥)
   own_visits n m vs more = go (nat_eq m n) refl
     where
-      none_there : (xs : List (Visit T)) → is_one n m ≡ 0 → times (is_one n m) xs ≡ 0
-      none_there [] q = refl
-      none_there (x ∷ xs) q = let r = none_there xs q in omega arith
-
       go : (b : Bool) → nat_eq m n ≡ b → (m ≡ n) × (vs ≡ [] → ⊥)
       go true e = (eqb-true m n e, λ z. (let x = ap (times (is_one n m)) z in omega arith))
-      go false e = let x = none_there vs (ap (λ (b : Bool). if b then 1 else 0) e) in absurd (omega arith)
+      go false e = let x = no_times n m vs (ap (λ (b : Bool). if b then 1 else 0) e) in absurd (omega arith)
 
   owner : (s : State (Homes T) (Knows T)) (k : Keeps s) (n : ℕ) (u : Visit T) → IsOneOf u (made_by n k.all)
       → Owner s.views (made_by n k.all)
@@ -216,17 +216,17 @@ module _ {T : Type 0} where
       let a = owned s k f.segment sent.0 sent.1 (ap (λ l. get_elem? l sent.0) (sym here) ∙ sent.2) in (
         (
           a.0,
-          sent.3.0,
+          sent.3,
           a.1,
-          a.3 at sent.3.0 sent.3.1,
-          told.sender sent.0 sent.1 sent.3.0 sent.2 sent.3.1 ∙ ap name_in (sym a.2),
+          a.3 at sent.3 sent.4,
+          told.sender sent.0 sent.1 sent.3 sent.2 sent.4 ∙ ap name_in (sym a.2),
         ),
         ⊎_elim (λ n. inl n) (λ got.
         let b = owned s k f.segment got.0 got.1 (ap (λ l. get_elem? l got.0) (sym here) ∙ got.2) in inr (
           b.0,
-          got.3.0,
+          got.3,
           b.1,
-          b.4 at got.3.0 got.3.1,
-          told.receiver got.0 got.1 got.3.0 got.2 got.3.1 ∙ ap name_in (sym b.2),
+          b.4 at got.3 got.4,
+          told.receiver got.0 got.1 got.3 got.2 got.4 ∙ ap name_in (sym b.2),
         )) told.got,
       )

@@ -3,10 +3,10 @@ use Rattle.std.specs.Prelude.{ℕ, ◌≡◌, ◌⊎◌, List, None}
 use Rattle.mb_segment.specs.Vocabulary.{name_in}
 pub use Rattle.mb_segment.specs.declared.left.Fate.{Fate}
 pub use Rattle.mb_channel.specs.declared.place.Place.{Place}
-pub use Rattle.mb_channel.specs.Fates.{HasTaken, IsFateOf, IsTrue, gives_fates, is_fate}
+pub use Rattle.mb_channel.specs.Fates.{HasTaken, IsFateOf, IsTaken, IsTrue, LosesNone, gives_fates, is_fate, told_fates, told_of}
 use Rattle.mb_channel.specs.Types.{Knows}
 use Rattle.mb_channel.specs.Inside.{Log}
-use Rattle.mb_channel.specs.Fates.{IsLog, IsOneOf}
+pub use Rattle.mb_channel.specs.Fates.{IsLog, IsOneOf}
 
 -- some end sent a value at this place, and has the name that the fate tells. So is it of the end that received it, or the
 -- fate tells no name of one

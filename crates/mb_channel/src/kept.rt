@@ -194,6 +194,17 @@ impl<T: Drop> KeptSender<T> {
         if self.owes() {
             return Err(self.owing());
         }
+        Ok(self.settled())
+    }
+
+    /// The sender, which owes nothing.
+    fn settled(self) -> Sender<T>
+        requires settled { IsSettled self }
+        ensures stand { stand_of result.end ≡ stand_kept self }
+        ensures log { log_of result.end ≡ log_kept self }
+        ensures wakes { wakes_of result.end ≡ wakes_kept self }
+        ensures behind { result.end.behind ≡ self.behind }
+    {
         let KeptSender {
             list,
             chair,
@@ -215,20 +226,23 @@ impl<T: Drop> KeptSender<T> {
                 over,
                 behind,
             };
-            return Ok(Sender { end });
+            return Sender { end };
         };
-        let Ok(inside) = busy.rest() else { unreachable!() };
-        let end = End {
-            list,
-            chair,
-            at,
-            rights,
-            name,
-            inside: Some(inside),
-            over,
-            behind,
-        };
-        Ok(Sender { end })
+        match busy.rest() {
+            Ok(inside) => Sender {
+                end: End {
+                    list,
+                    chair,
+                    at,
+                    rights,
+                    name,
+                    inside: Some(inside),
+                    over,
+                    behind,
+                },
+            },
+            Err(_) => unreachable!(),
+        }
     }
 
     /// What the sender owes.

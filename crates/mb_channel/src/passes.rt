@@ -230,7 +230,8 @@ impl<T: Drop> Homes<T> {
     pub(crate) fn take_fates(&mut self) -> Option<Fates<T>>
         ensures some { IfSome result (λ f. (hs : List (Home T)) → Stands hs self.old
             → Stands hs self.new × IsFateOf hs f × (told_of self.new ≡ suc f.segment)) }
-        ensures none { IfNone result ((self.new ≡ self.old) × (self.old.audit.kept.items ≡ [])) }
+        ensures none { IfNone result ((self.new.audit.kept.items ≡ [])
+            × ((hs : List (Home T)) → Stands hs self.old → Stands hs self.new)) }
     {
         let segment = self.first.saturating_sub(self.audit.kept.len());
         let Some(left) = self.audit.kept.pop_front() else {

@@ -1,5 +1,5 @@
 //! A receiver gives a value back to the channel, by a sender that it makes for that.
-ghost use Rattle.std.specs.Prelude.{◌≡◌, ◌⊎◌, false, true, IfErr, IsErrAnd, OnOk};
+ghost use Rattle.std.specs.Prelude.{◌≡◌, ◌⊎◌, false, true, IfErr, IfOk, IsErrAnd, OnOk};
 ghost use Rattle.mb_channel.specs.declared.channel.Refused.TheVariants.{Closed};
 ghost use Rattle.mb_channel.specs.Answers.{IfClosed};
 ghost use Rattle.mb_channel.specs.Deeds.{IsUpTo, OneMore};
@@ -23,15 +23,29 @@ impl<T: Drop> End<T> {
         ensures closed { IfErr result (λ why. IfClosed why (IsBehind self.new)) }
     {
         for _ in rt.forever() {
-            if self.learn(place, false) {
+            if self.learn_once(place)? {
                 return Ok(());
-            }
-            if self.inside.is_none() {
-                self.go_on(false, false)?;
             }
             yield_now();
         }
         unreachable!()
+    }
+
+    /// Tries to do so. If it does not know as much, and is in no segment, it goes on.
+    fn learn_once(&mut self, place: Place) -> Result<bool, Refused>
+        ensures still { NoMore (stand_of self.old) (stand_of self.new) }
+        ensures learned { IfOk result (λ done. done ≡ true
+            → IsUpTo place (knows false (stand_of self.new))) }
+        ensures closed { IfErr result (λ why. IfClosed why (IsBehind self.new)) }
+    {
+        if self.learn(place, false) {
+            return Ok(true);
+        }
+        if self.inside.is_some() {
+            return Ok(false);
+        }
+        self.go_on(false, false)?;
+        Ok(false)
     }
 }
 

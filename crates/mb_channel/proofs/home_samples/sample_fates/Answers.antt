@@ -4,7 +4,8 @@ use mathlib.Core.Option.{some, some-injective, some-ne-none}
 use lib.ListN.{get_elem?}
 use Rattle.mb_channel.specs.Types.{Knows}
 use Rattle.mb_channel.specs.Homes.{Sat, past_of}
-use Rattle.mb_channel.specs.HomeSamples.{fate, seven}
+use Rattle.mb_channel.specs.Deeds.{Deed}
+use Rattle.mb_channel.specs.HomeSamples.{fate, place, seven}
 use Rattle.mb_channel.specs.Inside.{Log, log_of_past}
 use Rattle.mb_channel.specs.Fates.{IsOneOf}
 use Rattle.mb_channel.proofs.home_samples.sample_fates.Goals as goal
@@ -31,10 +32,13 @@ its_log : (l : Log ℕ) (id : ℕ) (v : Knows ℕ) → get_elem? {A = Knows ℕ}
 its_log l id v at is = ⊎_elim (λ e. e) (λ f. absurd f)
     (subst (λ z. IsOneOf l (map log_of_past (past_of z ∷ z.ended))) (sym (only id v at)) is)
 
+abbrev call : ℕ → Deed ℕ
+call y = record { place = place 0 0; value = y }
+
 pub returns-clause-right : goal.returns-clause-right
 returns-clause-right c = λ l y log. let e = its_log l log.0 log.1 log.2 log.3 in (
   (λ sent. ap (λ (m : Log ℕ). Rattle.mb_segment.specs.Vocabulary.name_in m.name) (sym e)),
-  λ got. absurd (subst (λ (m : Log ℕ). IsOneOf _ m.got) e got),
+  λ got. absurd (subst (λ (m : Log ℕ). IsOneOf (call y) m.got) e got),
 )
 
 pub returns-clause-wrong : goal.returns-clause-wrong

@@ -2,7 +2,7 @@ use Rattle.std.proofs.Common.{sym, ap, ◌∙◌, subst}
 use Rattle.std.specs.Prelude.{Option, None, Some}
 use Rattle.mb_channel.specs.declared.view.Knows.{Knows}
 use Rattle.mb_channel.specs.Fates.{HasTaken}
-use Rattle.mb_channel.proofs.Audits.{after_taken}
+use Rattle.mb_channel.proofs.Audits.{after_taken, told_chair}
 use Rattle.mb_channel.proofs.Lengths.{seat_is}
 use Rattle.mb_channel.proofs.list.List.fates.Goals as goal
 
@@ -24,3 +24,25 @@ returns-then-not-try_lock g c = record {
   told = seat_is c.args.chair.now c.try_lock.new.chair c.try_lock.ensures.list
       (c.try_lock.ensures.missed c.if-not-try_lock.true);
 }
+
+pub returns-in-Some : goal.returns-in-Some
+returns-in-Some g c = let x = c.try_lock.ensures.locked c.if-not-try_lock.false in
+    let a = c.give_fates.ensures.list in
+    let b = c.take_fates-taken.ensures.list in
+    let d = c.try_lock.ensures.list in record {
+      told = after_taken c.take_fates-taken.result x.2 c.args.chair.now c.give_fates.new.chair
+          c.take_fates-taken.new.chair.me.0 (a.0 ∙ b.0 ∙ d.0, a.1 ∙ b.1 ∙ d.1) c.requires.ready
+          (c.take_fates-taken.ensures.view ∙ x.4.1) c.give_fates.ensures.told
+          ∙ ap (λ o. told_chair o c.args.chair.now) c.in-Some.is;
+    }
+
+pub returns-in-None : goal.returns-in-None
+returns-in-None g c = let x = c.try_lock.ensures.locked c.if-not-try_lock.false in
+    let a = c.give_fates.ensures.list in
+    let b = c.take_fates-taken.ensures.list in
+    let d = c.try_lock.ensures.list in record {
+      told = after_taken c.take_fates-taken.result x.2 c.args.chair.now c.give_fates.new.chair
+          c.take_fates-taken.new.chair.me.0 (a.0 ∙ b.0 ∙ d.0, a.1 ∙ b.1 ∙ d.1) c.requires.ready
+          (c.take_fates-taken.ensures.view ∙ x.4.1) c.give_fates.ensures.told
+          ∙ ap (λ o. told_chair o c.args.chair.now) c.in-None.is;
+    }

@@ -19,9 +19,11 @@ pub returns-clause-taken : goal.returns-clause-taken
 returns-clause-taken g c = let t = c.requires.homes in
     let now = c.slot_mut-homes.result.now in
     let same = was c.args.chair.now.me.1 t.0 now t.1 c.slot_mut-homes.ensures.value in
-    let s = subst (λ l. Stands t.2 l) (sym same) t.3 in (
+    let s = subst (λ l. Stands t.2 l) (sym same) t.3 in
+    let out = taken_out c.take_fates.result t.2 c.args.chair.now.me.0.before now c.take_fates.new.self s t.4
+    c.take_fates.ensures.some c.take_fates.ensures.none in (
       c.take_fates.new.self,
       only_one c.args.chair.now.me.1 t.0 c.take_fates.new.self t.1,
-      taken_out c.take_fates.result t.2 c.args.chair.now.me.0.before now c.take_fates.new.self s t.4
-          c.take_fates.ensures.some c.take_fates.ensures.none,
+      out.0,
+      out.1,
     )
