@@ -7,7 +7,7 @@ use lib.ListN.{get_elem?}
 use Rattle.atomic_table.specs.Table.{Splits, Joins}
 use Rattle.atomic_table.proofs.Lists.{at_set, set_else, set_here, at_longer}
 use Rattle.mb_channel.specs.Types.{Home, Knows, Past}
-use Rattle.mb_channel.specs.Homes.{AllPast, Fits, IsSpent, Keeps, Made, NobodyTold, PastFits, FitsEnd}
+use Rattle.mb_channel.specs.Homes.{AllPast, AreNamed, Fits, IsSpent, Keeps, Made, NobodyTold, PastFits, FitsEnd}
 use Rattle.mb_channel.specs.Homes.{both, count, how_many, is_in, made_by, newborn_view, past_of}
 use Rattle.mb_channel.specs.Homes.{receives, rights, sends, spent_view, splits_off, tallies, told_or, total}
 use Rattle.std.proofs.lemmas.Bool.{or_left, or_right}
@@ -41,6 +41,7 @@ module _ {T : Type 0} where
   fits_longer hs all views w j u f = record {
     named = f.named;
     falls = f.falls;
+    names = f.names;
     near = f.near;
     inside = f.inside;
     takes = f.takes;
@@ -65,6 +66,7 @@ module _ {T : Type 0} where
       )) record {
         named = f.named;
         falls = f.falls;
+        names = f.names;
         near = f.near;
         inside = f.inside;
         takes = f.takes;
@@ -75,6 +77,7 @@ module _ {T : Type 0} where
       (λ (t : (j ≢ id) × (get_elem? s.views j ≡ some u)). let g = k.fits j u t.1 in record {
         named = g.named;
         falls = g.falls;
+        names = g.names;
         near = g.near;
         inside = g.inside;
         takes = g.takes;
@@ -162,6 +165,7 @@ module _ {T : Type 0} where
             subst (λ (z : Knows T). Fits k.homes k.all (one ++ new ∷ []) j z) t.1 record {
               named = λ l. absurd (true≢false (sym l));
               falls = tt;
+              names = (tt, tt);
               near = f.near;
               inside = λ l. absurd (true≢false (sym l));
               takes = f.takes;
@@ -291,6 +295,7 @@ module _ {T : Type 0} where
             (λ (t : (j ≡ other) × (spent_view ≡ u)). subst (λ (z : Knows T). Fits k.homes k.all two j z) t.1 record {
               named = λ l. absurd (true≢false (sym l));
               falls = tt;
+              names = (tt, tt);
               near = inl refl;
               inside = λ l. absurd (true≢false (sym l));
               takes = λ _ j lt. absurd (omega arith);
@@ -303,6 +308,11 @@ module _ {T : Type 0} where
             (sym q.0 i, q.1 i)) record {
               named = f.named;
               falls = f.falls;
+              names = (
+                f.names.0,
+                past_append (λ p. AreNamed p.name p.visits) v.ended (past_of w ∷ w.ended) f.names.1
+                    g.names,
+              );
               near = f.near;
               inside = f.inside;
               takes = f.takes;
@@ -316,6 +326,7 @@ module _ {T : Type 0} where
             (λ (q : (j ≢ id) × (get_elem? s.views j ≡ some u)). let x = k.fits j u q.1 in record {
               named = x.named;
               falls = x.falls;
+              names = x.names;
               near = x.near;
               inside = x.inside;
               takes = x.takes;

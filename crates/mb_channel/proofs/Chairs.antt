@@ -3,7 +3,7 @@ use Rattle.std.proofs.Common.{ℕ, Bool, true, false, true≢false, List, [], le
 use Rattle.std.proofs.Common.{◌≡◌, ◌+◌, ◌<◌, ◌≤◌, ◌⊎◌, ◌∷◌, ◌++◌, ◌||◌, ◌∙◌}
 use Rattle.std.specs.Prelude.{IfSome, None, Option, Some, get_or, is_some, slice_set}
 use Rattle.mb_segment.specs.Seats.{view_in as pass_view}
-use Rattle.mb_segment.specs.Vocabulary.{IsFree as IsCalmPass, blank, hub_view, is_over, or, took_back}
+use Rattle.mb_segment.specs.Vocabulary.{IsFree as IsCalmPass, hub_view, is_over, named, or, took_back}
 use mathlib.Core.Option.{some, some-injective}
 use lib.ListN.{get_elem?}
 use Rattle.mb_channel.specs.Types.{Arc, Global, Home, Homes, Knows, Pass, Segment, View, arc_value}
@@ -136,7 +136,7 @@ module _ {T : Type 0} where
   pub unlocks_same : (slots id : ℕ) (me : Sat T) (y : Homes T) (hs : List (Home T)) → Stands hs y → me.1 ≡ (0, y) ∷ []
       → me.0.live ≡ true → me.0.holds ≡ true → MayLeave me.0 hs → MayGive (λ v. v) slots id me
   unlocks_same slots id me y hs stands carried live holds may = unlocks
-      (λ v. v) slots id me y hs stands carried live holds refl refl refl refl refl refl refl
+      (λ v. v) slots id me y hs stands carried live holds refl refl refl refl refl refl refl refl
       (λ s k at part before.
       let f = k.fits id me.0 at in
       let l : IsKept me.0.at k.homes hs = subst (λ x. IsKept me.0.at x hs) before
@@ -155,6 +155,7 @@ module _ {T : Type 0} where
         record {
           named = f.named;
           falls = f.falls;
+          names = f.names;
           near = near_grows k.homes hs g me.0.at f.near;
           inside = λ is. in_grows k.homes hs g me.0 (f.inside is);
           takes = λ is. next_grows k.homes hs g me.0.at (f.takes is);
@@ -192,12 +193,13 @@ module _ {T : Type 0} where
   pub leaves_list : (x : View T) (done : Bool) (slots id : ℕ) (me : Sat T) (y : Homes T) (hs : List (Home T))
       → Stands hs y → me.1 ≡ (0, y) ∷ [] → me.0.live ≡ true → me.0.holds ≡ true → me.0.inside ≡ true
       → Changes me.0.before hs me.0.at (λ h g. HasTakenBack h g x × (done ≡ g.done))
-      → (me.0.takes ≡ false → x.account.got ≡ []) → MayGive (left_segment x done) slots id me
-  leaves_list x done slots id me y hs stands carried live holds inside c poor = let did = c.4.0 in
+      → (me.0.takes ≡ false → x.account.got ≡ []) → x.account.name ≡ me.0.name
+      → MayGive (left_segment x done) slots id me
+  leaves_list x done slots id me y hs stands carried live holds inside c poor name = let did = c.4.0 in
       unlocks_left x done slots id me y hs stands carried live holds inside c.0 c.1 c.2 c.3
       did.0 (λ d. done_then x c.0 c.1 did.1 (inl d)) (λ o. over_then x c.0 c.1 did.1 (inl o))
       (ap (λ (z : View T). z.ends) did.1) (ap (λ (z : View T). z.out) did.1)
-      (λ q. sym c.1.tells ∙ sym c.4.1 ∙ q) (λ o. over_then x c.0 c.1 did.1 (inr o)) poor
+      (λ q. sym c.1.tells ∙ sym c.4.1 ∙ q) (λ o. over_then x c.0 c.1 did.1 (inr o)) poor name
 
   -- the segment is done if the pass saw that
   pub done_if : (x : View T) (done : Bool) (hs gs : List (Home T)) (k : ℕ)
@@ -217,10 +219,11 @@ module _ {T : Type 0} where
   came_where a p h g did = did.3 ∙ g.same ∙ ap (λ (s : Segment T Global). s.table.shared.table_id) (sym did.2)
 
   -- the segment whose hub issued a pass
-  pub issued_of : (r : Option (Arc (Segment T Global) Global × Pass T)) (hs : List (Home T)) (k : ℕ) (h g : Home T)
+  pub issued_of : (n : ℕ) (r : Option (Arc (Segment T Global) Global × Pass T)) (hs : List (Home T)) (k : ℕ)
+      (h g : Home T)
       → get_elem? hs k ≡ some h → IfSome r (λ r. HasIssued h g r.0 r.1)
-      → IfSome r (λ r. (pass_view r.1 ≡ blank) × IsCalmPass r.1)
-      → IfSome r (λ r. Changes hs (slice_set hs k g) k (λ h g. HasIssued h g r.0 r.1) × (pass_view r.1 ≡ blank)
+      → IfSome r (λ r. (pass_view r.1 ≡ named n) × IsCalmPass r.1)
+      → IfSome r (λ r. Changes hs (slice_set hs k g) k (λ h g. HasIssued h g r.0 r.1) × (pass_view r.1 ≡ named n)
       × IsCalmPass r.1)
-  issued_of (Some r) hs k h g at did new = ((h, g, at, refl, did), new.0, new.1)
-  issued_of None hs k h g at did new = tt
+  issued_of n (Some r) hs k h g at did new = ((h, g, at, refl, did), new.0, new.1)
+  issued_of n None hs k h g at did new = tt

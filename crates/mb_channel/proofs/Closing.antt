@@ -42,6 +42,7 @@ module _ {T : Type 0} where
       record {
         named = f.named;
         falls = f.falls;
+        names = f.names;
         near = f.near;
         inside = f.inside;
         takes = f.takes;
@@ -228,7 +229,7 @@ module _ {T : Type 0} where
       → (me.0.shut ≡ true) ⊎ (me.0.alone ≡ true) → (me.0.at ≡ n) × (me.0.orderly ≡ true)
       → MayGive (told_last n) slots id me
   unlocks_told n slots id me y hs stands carried live holds is size seen here = unlocks
-      (told_last n) slots id me y hs stands carried live holds refl refl refl refl refl refl refl
+      (told_last n) slots id me y hs stands carried live holds refl refl refl refl refl refl refl refl
       (λ s k at part before.
       let v = me.0 in
       let f = k.fits id v at in
@@ -251,6 +252,7 @@ module _ {T : Type 0} where
         record {
           named = f.named;
           falls = f.falls;
+          names = f.names;
           near = subst (λ l. IsNear l v.at) now f.near;
           inside = λ q. subst (λ l. IsIn l v) now (f.inside q);
           takes = λ q. subst (λ l. IsNext l v.at) now (f.takes q);

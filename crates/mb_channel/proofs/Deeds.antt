@@ -28,7 +28,7 @@ module _ {T : Type 0} where
   sent_still x u v w s k =
       let a = s.there in let b = a.1 in let c = a.2 in let d = a.3 in
       let e = k.there in let f = e.1 in let g = e.2 in let h = e.3 in let n = s.known in record {
-        there = (e.0 ∙ a.0, omega arith, omega arith, omega arith);
+        there = (e.0 ∙ a.0, omega arith, omega arith, omega arith, e.4 ∙ a.4);
         number = s.number;
         sent = ap (λ (y : Account T). y.sent) k.account ∙ s.sent;
         behind = s.behind;

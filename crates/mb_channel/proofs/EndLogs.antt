@@ -33,6 +33,7 @@ module _ {T : Type 0} where
   one c o u w is here = record {
     list = refl;
     number = refl;
+    name = refl;
     ended = refl;
     sends = refl;
     receives = refl;

@@ -7,12 +7,12 @@ use native.Mathlib.Decide.{dec_le}
 use mathlib.Core.Option.{some, some-ne-none}
 use lib.ListN.{get_elem?}
 use Rattle.atomic_table.proofs.Lists.{at_longer}
-use Rattle.mb_channel.specs.Types.{Home, Homes}
-use Rattle.mb_channel.specs.Homes.{AllHomes, At, Changes, IsBusy, IsFreed, IsNew, IsNext, Longer, Stands, out_of}
+use Rattle.mb_channel.specs.Types.{Audit, Home, Homes}
+use Rattle.mb_channel.specs.Homes.{AllHomes, At, Changes, IsBusy, IsFreed, IsNew, IsNext, KeepsFates, Longer, Stands, out_of}
 use Rattle.mb_channel.specs.Tallies.{GoesOnTo}
 
 module _ {A : Type 0} where
-  behind : (xs ys : List A) (k : ℕ) → length xs ≤ k → get_elem? (xs ++ ys) k ≡ get_elem? ys (k - length xs)
+  pub behind : (xs ys : List A) (k : ℕ) → length xs ≤ k → get_elem? (xs ++ ys) k ≡ get_elem? ys (k - length xs)
   behind [] ys k le = let e : k ≡ k - 0 = omega arith in ap (get_elem? ys) e
   behind (x ∷ xs) ys zero le = absurd (omega arith)
   behind (x ∷ xs) ys (suc k) le = let e : k - length xs ≡ suc k - suc (length xs) = omega arith in
@@ -42,8 +42,8 @@ module _ {T : Type 0} where
   all_homes [] P f = tt
   all_homes (h ∷ hs) P f = (f 0 h refl, all_homes hs P (λ k u e. f (suc k) u e))
 
-  all_at : (P : Home T → Type 0) (hs : List (Home T)) → AllHomes P hs → (k : ℕ) (h : Home T) → get_elem? hs k ≡ some h
-      → P h
+  pub all_at : (P : Home T → Type 0) (hs : List (Home T)) → AllHomes P hs → (k : ℕ) (h : Home T)
+      → get_elem? hs k ≡ some h → P h
   all_at P [] all k h e = absurd (some-ne-none h (sym e))
   all_at P (x ∷ xs) all zero h e = subst P (mathlib.Core.Option.some-injective x h e) all.0
   all_at P (x ∷ xs) all (suc k) h e = all_at P xs all.1 k h e
@@ -140,28 +140,35 @@ module _ {T : Type 0} where
       (λ (x : (length hs ≡ k) × IsNext hs k). let y = x.0 in absurd (omega arith)) on
 
   -- ---- the list changes
+  pub kept_still : (gone : List (Home T)) (l m : Homes T) → m.audit ≡ l.audit → KeepsFates gone l.audit
+      → KeepsFates gone m.audit
+  kept_still gone l m same = subst (λ (a : Audit T). KeepsFates gone a) (sym same)
+
   stands_set : (hs : List (Home T)) (l m : Homes T) (k : ℕ) (g : Home T) → Stands hs l → l.first ≤ k
-      → m.list.items ≡ slice_set l.list.items (k - l.first) g → m.first ≡ l.first → Stands (slice_set hs k g) m
+      → m.list.items ≡ slice_set l.list.items (k - l.first) g → (m.first ≡ l.first) × (m.audit ≡ l.audit)
+      → Stands (slice_set hs k g) m
   stands_set hs l m k g s le is same = let number = s.number in record {
     gone = s.gone;
     all = ap (λ x. slice_set x k g) s.all ∙ set_behind s.gone l.list.items k g (omega arith)
         ∙ ap (λ n. s.gone ++ slice_set l.list.items (k - n) g) s.number ∙ ap (λ x. s.gone ++ x) (sym is);
-    number = s.number ∙ sym same;
+    number = s.number ∙ sym same.0;
     freed = s.freed;
+    fates = kept_still s.gone l m same.1 s.fates;
   }
 
   pub stands_same : (hs : List (Home T)) (l m : Homes T) → Stands hs l → m.list.items ≡ l.list.items
-      → m.first ≡ l.first → Stands hs m
+      → (m.first ≡ l.first) × (m.audit ≡ l.audit) → Stands hs m
   stands_same hs l m s is same = record {
     gone = s.gone;
     all = s.all ∙ ap (λ x. s.gone ++ x) (sym is);
-    number = s.number ∙ sym same;
+    number = s.number ∙ sym same.0;
     freed = s.freed;
+    fates = kept_still s.gone l m same.1 s.fates;
   }
 
   -- one segment of the list changed
   pub changes_all : (hs : List (Home T)) (l m : Homes T) (k : ℕ) (P : Home T → Home T → Type 0) → Stands hs l
-      → l.first ≤ k → Changes l.list.items m.list.items (k - l.first) P → m.first ≡ l.first
+      → l.first ≤ k → Changes l.list.items m.list.items (k - l.first) P → (m.first ≡ l.first) × (m.audit ≡ l.audit)
       → (gs : List (Home T)) × Stands gs m × Changes hs gs k P
   changes_all hs l m k P s le c same = (
     slice_set hs k c.1,
@@ -170,33 +177,39 @@ module _ {T : Type 0} where
   )
 
   stands_more : (hs : List (Home T)) (l m : Homes T) (h : Home T) → Stands hs l → m.list.items ≡ l.list.items ++ h ∷ []
-      → m.first ≡ l.first → Stands (hs ++ h ∷ []) m
+      → (m.first ≡ l.first) × (m.audit ≡ l.audit) → Stands (hs ++ h ∷ []) m
   stands_more hs l m h s is same = record {
     gone = s.gone;
     all = ap (λ x. x ++ h ∷ []) s.all ∙ append_assoc s.gone l.list.items (h ∷ []) ∙ ap (λ x. s.gone ++ x) (sym is);
-    number = s.number ∙ sym same;
+    number = s.number ∙ sym same.0;
     freed = s.freed;
+    fates = kept_still s.gone l m same.1 s.fates;
   }
 
-  pub stands_freed : (hs : List (Home T)) (l m : Homes T) (h : Home T) → Stands hs l → l.list.items ≡ h ∷ m.list.items
-      → IsFreed h → m.first ≡ l.first + 1 → Stands hs m
-  stands_freed hs l m h s is done more = let number = s.number in let n = length-append s.gone (h ∷ []) in record {
+  pub stands_freed : (hs : List (Home T)) (l m : Homes T) (h : Home T) (s : Stands hs l)
+      → l.list.items ≡ h ∷ m.list.items → IsFreed h → m.first ≡ l.first + 1 → KeepsFates (s.gone ++ h ∷ []) m.audit
+      → Stands hs m
+  stands_freed hs l m h s is done more fates = let number = s.number in
+      let n = length-append s.gone (h ∷ []) in record {
     gone = s.gone ++ h ∷ [];
     all = s.all ∙ ap (λ x. s.gone ++ x) is ∙ sym (append_assoc s.gone (h ∷ []) m.list.items);
     number = omega arith;
     freed = all_snoc IsFreed s.gone h s.freed done;
+    fates = fates;
   }
 
   pub longer_of : {E : Type 0} (r : Result (Unit {0}) E) (n : ℕ) (hs : List (Home T)) (l m : Homes T) → Stands hs l
       → length hs ≡ n
-      → IfOk r (λ _. (h : Home T) × IsNew h × (m.list.items ≡ l.list.items ++ h ∷ [])) → m.first ≡ l.first
+      → IfOk r (λ _. (h : Home T) × IsNew h × (m.list.items ≡ l.list.items ++ h ∷ []))
+      → (m.first ≡ l.first) × (m.audit ≡ l.audit)
       → (Q : Type 0) → ((gs : List (Home T)) → Stands gs m → Longer n hs gs → Q) → IfOk r (λ _. Q)
   longer_of (Ok u) n hs l m s long more first Q f =
       f (hs ++ more.0 ∷ []) (stands_more hs l m more.0 s more.2 first) (more.0, more.1, refl, long)
   longer_of (Err e) n hs l m s long more first Q f = tt
 
   pub same_of : {A E : Type 0} (r : Result A E) (hs : List (Home T)) (l m : Homes T) → Stands hs l
-      → OnErr r (m.list.items ≡ l.list.items) → m.first ≡ l.first → (Q : Type 0) → (Stands hs m → Q) → OnErr r Q
+      → OnErr r (m.list.items ≡ l.list.items) → (m.first ≡ l.first) × (m.audit ≡ l.audit) → (Q : Type 0)
+      → (Stands hs m → Q) → OnErr r Q
   same_of (Ok u) hs l m s same first Q f = tt
   same_of (Err e) hs l m s same first Q f = f (stands_same hs l m s same first)
 

@@ -56,7 +56,7 @@ module _ {T : Type 0} where
       (λ (u : View T). (h : HasSent x (in_segment s u) (in_segment s w)) × (h.number ≡ p)) same
       (subst (λ (u : View T). (h : HasSent x (in_segment s v) (in_segment s u)) × (h.number ≡ p)) (sym e) (
         record {
-          there = (refl, omega arith, omega arith, omega arith);
+          there = (refl, omega arith, omega arith, omega arith, refl);
           number = p;
           sent = refl;
           behind = low;
@@ -76,7 +76,7 @@ module _ {T : Type 0} where
       let taken_ = ap (λ (u : View T). u.known.taken) b in
       subst (λ (u : View T). (h : HasGot x (in_segment s t) (in_segment s u)) × (h.number ≡ p)) (sym e) (
         record {
-          there = (refl, saw, omega arith, omega arith);
+          there = (refl, saw, omega arith, omega arith, ap (λ (u : View T). u.account.name) b);
           number = p;
           got = ap (λ (u : View T). u.account.got ++ spot p x ∷ []) b;
           behind = omega arith;

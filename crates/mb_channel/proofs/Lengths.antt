@@ -1,17 +1,18 @@
 -- The hubs of the list look how many positions are drawn and claimed.
 use Rattle.std.proofs.Common.{ℕ, zero, suc, true, true≢false, List, [], length, sym, refl, ap, subst, inl, inr, ⊎_elim, arith}
-use Rattle.std.proofs.Common.{◌≡◌, ◌+◌, ◌⊎◌, ◌∷◌, ◌++◌, ◌∙◌}
+use Rattle.std.proofs.Common.{◌≡◌, ◌+◌, ◌<◌, ◌⊎◌, ◌∷◌, ◌++◌, ◌∙◌}
 use Rattle.std.specs.Prelude.{slice_set, None, Option}
 use mathlib.Core.Option.{none, some, some-injective, some-ne-none}
 use lib.ListN.{get_elem?}
 use Rattle.atomic_table.specs.Table.{Allows, State, Step, step}
 use Rattle.atomic_table.specs.declared.shared.Seat.{Seat}
 use Rattle.mb_segment.specs.Vocabulary.{hub_view, is_over}
-use Rattle.mb_channel.specs.Types.{Home, Homes, Knows, View}
+use Rattle.mb_channel.specs.Types.{Fates, Home, Homes, Knows, View}
 use Rattle.mb_channel.specs.Homes.{Agrees, At, Changes, Grows, IsDone, IsNext, IsOver, IsReady, Keeps, Made, Sat, Stands}
 use Rattle.mb_channel.specs.Homes.{is_in, locked, out_of, total, unlocked}
-use Rattle.mb_channel.specs.Lengths.{HasLooked, HasSummed, HaveLooked, chair_told, gives_length, sum_of, sum_to, told_length}
-use Rattle.mb_channel.proofs.Moves.{busy_same, ended_stay, in_grows, led_grows, near_grows, next_grows, over_grows, still_told, unlocks_as}
+use Rattle.mb_channel.specs.Lengths.{HasLooked, HasSummed, HaveLooked, and_length, chair_told, gives_length, sum_of, sum_to, told_length}
+use Rattle.mb_channel.proofs.Moves.{Lawful, busy_same, ended_stay, in_grows, led_grows, near_grows, next_grows, over_grows, still_told, unlocks_as}
+use Rattle.mb_channel.proofs.Freed.{kept_still}
 use Rattle.mb_channel.proofs.Views.{made_map, size_set}
 
 module _ {T : Type 0} where
@@ -86,10 +87,16 @@ module _ {T : Type 0} where
 
   -- ---- the list, with those that are freed
   pub stands_looked : (hs : List (Home T)) (l m : Homes T) → Stands hs l → HaveLooked l.list.items m.list.items
-      → m.first ≡ l.first → (gs : List (Home T)) × Stands gs m × HaveLooked hs gs
+      → (m.first ≡ l.first) × (m.audit ≡ l.audit) → (gs : List (Home T)) × Stands gs m × HaveLooked hs gs
   stands_looked hs l m s a same = (
     s.gone ++ m.list.items,
-    record { gone = s.gone; all = refl; number = s.number ∙ sym same; freed = s.freed },
+    record {
+      gone = s.gone;
+      all = refl;
+      number = s.number ∙ sym same.0;
+      freed = s.freed;
+      fates = kept_still s.gone l m same.1 s.fates;
+    },
     subst (λ x. HaveLooked x (s.gone ++ m.list.items)) (sym s.all) (looked_behind s.gone l.list.items m.list.items a),
   )
 
@@ -127,14 +134,13 @@ module _ {T : Type 0} where
   busy_looked s k gs l p m g e = let x = looked_from k.homes gs l m g e in
       ap (λ (z : View T). z.out + p) x.2.1 ∙ busy_same s k m p x.0 x.1
 
-  pub unlocks_looked : (told : Option ℕ) (slots id : ℕ) (me : Sat T) → me.0.live ≡ true → me.0.holds ≡ true
-      → HasSummed me.0.before told me.1
-      → Allows Keeps slots id me 0 (λ _. 0) (λ _. gives_length told (step slots 0 0 0 none) me 0)
-  unlocks_looked told slots id me live holds sum = let hs = sum.2 in let looked = sum.4 in unlocks_as
-      (gives_length told (step slots 0 0 0 none) me 0) (told_length told (unlocked me.0)) slots id me sum.0 hs sum.3
-      sum.1 live holds refl refl refl refl refl (refl, holds, sum)
-      (λ s k at part before.
-      let f = k.fits id me.0 at in
+  pub lawful_looked : (s : State (Homes T) (Knows T)) (k : Keeps s) (id : ℕ) (v : Knows T) (hs : List (Home T))
+      (ns : List ℕ) (fs : List (Option (Fates T))) → get_elem? s.views id ≡ some v → 0 < v.rights
+      → v.before ≡ k.homes → HaveLooked v.before hs
+      → Lawful s k id v hs (record (unlocked v) { lengths = ns; fates = fs })
+  lawful_looked s k id v hs ns fs at part before looked =
+      let w : Knows T = record (unlocked v) { lengths = ns; fates = fs } in
+      let f = k.fits id v at in
       let l : HaveLooked k.homes hs = subst (λ x. HaveLooked x hs) before looked in
       let g = grows_looked k.homes hs l in
       let size = looked_long k.homes hs l in (
@@ -144,21 +150,31 @@ module _ {T : Type 0} where
         agrees_looked k.homes hs l k.all k.agrees,
         (λ n _. refl),
         (λ g. omega arith),
-        (λ n h e. busy_looked s k hs l (is_in n me.0) n h e),
+        (λ n h e. busy_looked s k hs l (is_in n v) n h e),
         record {
           named = f.named;
           falls = f.falls;
-          near = near_grows k.homes hs g me.0.at f.near;
-          inside = λ is. in_grows k.homes hs g me.0 (f.inside is);
-          takes = λ is. next_grows k.homes hs g me.0.at (f.takes is);
+          names = f.names;
+          near = near_grows k.homes hs g v.at f.near;
+          inside = λ is. in_grows k.homes hs g v (f.inside is);
+          takes = λ is. next_grows k.homes hs g v.at (f.takes is);
           newborn = f.newborn;
           idle = λ z. absurd (omega arith);
-          ended = ended_stay s k id me.0 (told_length told (unlocked me.0)) at part k.all (λ n _. refl);
+          ended = ended_stay s k id v w at part k.all (λ n _. refl);
         },
-        still_told s k id me.0 (told_length told (unlocked me.0)) hs at g size refl
+        still_told s k id v w hs at g size refl
             (λ q. absurd (true≢false (sym q))) (λ q. absurd (true≢false (sym q))) refl refl refl
-            (λ q. over_grows k.homes hs g me.0.at ((k.told id me.0 at).over q)),
-      ))
+            (λ q. over_grows k.homes hs g v.at ((k.told id v at).over q)),
+      )
+
+  pub unlocks_looked : (told : Option ℕ) (slots id : ℕ) (me : Sat T) → me.0.live ≡ true → me.0.holds ≡ true
+      → HasSummed me.0.before told me.1
+      → Allows Keeps slots id me 0 (λ _. 0) (λ _. gives_length told (step slots 0 0 0 none) me 0)
+  unlocks_looked told slots id me live holds sum = unlocks_as
+      (gives_length told (step slots 0 0 0 none) me 0) (told_length told (unlocked me.0)) slots id me sum.0 sum.2 sum.3
+      sum.1 live holds refl refl refl refl refl (refl, holds, sum)
+      (λ s k at part before. lawful_looked s k id me.0 sum.2 (and_length told me.0.lengths) me.0.fates at part before
+      sum.4)
 
   -- the list that an end gives back when it is told a length is the channel's
   pub told_of_list : (s : State (Homes T) (Knows T)) (k : Keeps s) (id r : ℕ) (told : Option ℕ) (st : Step (Homes T))
@@ -168,10 +184,10 @@ module _ {T : Type 0} where
       (λ held. (held.3 id m.0 at gives.1).1) k.lock) gives.2
 
   -- ---- the end that is told
-  seat_is : (p q : Seat (Homes T) (Knows T)) → (q.table_id ≡ p.table_id) × (q.id ≡ p.id) → q.me ≡ p.me → q ≡ p
+  pub seat_is : (p q : Seat (Homes T) (Knows T)) → (q.table_id ≡ p.table_id) × (q.id ≡ p.id) → q.me ≡ p.me → q ≡ p
   seat_is p q same me i = record q { table_id = same.0 i; id = same.1 i; me = me i }
 
-  let_go : (m : Sat T) (hs : List (Home T)) → IsReady m → unlocked (locked hs m.0) ≡ m.0
+  pub let_go : (m : Sat T) (hs : List (Home T)) → IsReady m → unlocked (locked hs m.0) ≡ m.0
   let_go m hs r i = record m.0 { holds = sym r.1 i; before = sym r.2 i; is_open = sym r.4 i; may_add = sym r.5 i }
 
   -- whoever has tried to count what waits is told that, or is as it was

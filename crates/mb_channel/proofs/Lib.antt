@@ -1,4 +1,5 @@
 pub mod Accounts
+mod Audits
 mod Back
 mod Below
 mod Chairs
@@ -17,6 +18,7 @@ mod LogsTold
 mod Members
 mod Moves
 mod Order
+mod Owners
 mod Places
 mod Remembers
 mod Rests

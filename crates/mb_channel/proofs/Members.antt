@@ -8,7 +8,7 @@ use prog.Atomic.{either}
 use Rattle.atomic_table.specs.Table.{State, Act, keeps, step, stepped, Allows, Valid, carried_after}
 use Rattle.atomic_table.proofs.Lists.{exchanged, set_again, at_set}
 use Rattle.mb_channel.specs.Types.{Home, Homes, Knows}
-use Rattle.mb_channel.specs.Homes.{IsFree, IsHeld, Keeps, Sat}
+use Rattle.mb_channel.specs.Homes.{AreNamed, IsFree, IsHeld, Keeps, Sat}
 use Rattle.mb_channel.specs.Homes.{receives, rights, sends, tallies, total}
 use Rattle.mb_channel.specs.Tallies.{counting, counts_more, gets_number, hires_receiver, hires_sender, retires_receiver, retires_sender}
 use Rattle.mb_channel.specs.Homes.{is_in, times}
@@ -73,11 +73,11 @@ module _ {T : Type 0} where
       → (lock : ℕ) → s.words ≡ lock ∷ tallies s.views mark → s.words ≡ lock ∷ tallies (slice_set s.views id w) mark
   tallies_stay s mark id v w at a b c lock e = e ∙ ap (λ l. lock ∷ l) (sym (tallies_set s.views id v w mark at a b c))
 
-  pub numbers : (slots id : ℕ) (me : Sat T) → me.0.live ≡ false → 0 < me.0.rights
-      → Allows Keeps slots id me 0 (λ n. n) (gets_number (step slots 0 0 0 none) me)
-  numbers slots id me unborn part s k len at small =
+  pub numbers : (name slots id : ℕ) (me : Sat T) → me.0.live ≡ false → 0 < me.0.rights
+      → Allows Keeps slots id me 0 (λ n. n) (gets_number name (step slots 0 0 0 none) me)
+  numbers name slots id me unborn part s k len at small =
       let v = me.0 in
-      let w : Knows T = record v { live = true; number = id } in
+      let w : Knows T = record v { live = true; number = id; name = name } in
       let f = k.fits id v at in
       let b = f.newborn unborn in
       let none_made = b.3 part in (
@@ -93,6 +93,7 @@ module _ {T : Type 0} where
             record {
               named = λ _. (refl, b.0 ∙ sym none_made);
               falls = f.falls;
+              names = (subst (λ l. AreNamed name l) (sym b.0) tt, f.names.1);
               near = f.near;
               inside = f.inside;
               takes = f.takes;
@@ -151,6 +152,7 @@ module _ {T : Type 0} where
             record {
               named = x.named;
               falls = x.falls;
+              names = x.names;
               near = x.near;
               inside = x.inside;
               takes = x.takes;

@@ -169,6 +169,7 @@ module _ {T : Type 0} where
         (λ (t : (j ≢ id) × (get_elem? s.views j ≡ some u)). let f = k.fits j u t.1 in record {
           named = λ l. let x = f.named l in (x.0, x.1 ∙ sym (same j t.0));
           falls = f.falls;
+          names = f.names;
           near = near_grows k.homes hs grows u.at f.near;
           inside = λ is. in_grows k.homes hs grows u (f.inside is);
           takes = λ is. next_grows k.homes hs grows u.at (f.takes is);
@@ -249,6 +250,7 @@ module _ {T : Type 0} where
             record {
               named = f.named;
               falls = f.falls;
+              names = f.names;
               near = f.near;
               inside = f.inside;
               takes = f.takes;
@@ -337,10 +339,10 @@ module _ {T : Type 0} where
       → (f (unlocked me.0)).rights ≡ me.0.rights → (f (unlocked me.0)).sends ≡ me.0.sends
       → (f (unlocked me.0)).receives ≡ me.0.receives → (f (unlocked me.0)).ended ≡ me.0.ended
       → (f (unlocked me.0)).holds ≡ false → (f (unlocked me.0)).found ≡ me.0.found
-      → (f (unlocked me.0)).lengths ≡ me.0.lengths
+      → (f (unlocked me.0)).lengths ≡ me.0.lengths → (f (unlocked me.0)).fates ≡ me.0.fates
       → ((s : State (Homes T) (Knows T)) (k : Keeps s) → get_elem? s.views id ≡ some me.0 → 0 < me.0.rights
       → me.0.before ≡ k.homes → Lawful s k id me.0 hs (f (unlocked me.0)))
       → MayGive f slots id me
-  unlocks f slots id me y hs stands carried live holds ends senders receivers past lets same lengths = unlocks_as
+  unlocks f slots id me y hs stands carried live holds ends senders receivers past lets same lengths fates = unlocks_as
       (gives_lock f (step slots 0 0 0 none) me 0) (f (unlocked me.0)) slots id me y hs stands carried live holds
-      ends senders receivers past lets (refl, refl, same, lengths)
+      ends senders receivers past lets (refl, refl, same, lengths, fates)

@@ -38,6 +38,7 @@ module _ {T : Type 0} where
   one_then a b c p q = record {
     list = q.list ∙ p.list;
     number = q.number ∙ p.number;
+    name = q.name ∙ p.name;
     ended = q.ended ∙ p.ended;
     sends = q.sends ∙ p.sends;
     receives = q.receives ∙ p.receives;

@@ -113,9 +113,11 @@ module _ {T : Type 0} where
       → (h g : Home T) → get_elem? me.0.before me.0.at ≡ some h → hs ≡ slice_set me.0.before me.0.at g
       → g.segment ≡ h.segment → (IsDone h → IsDone g) → (IsOver h → IsOver g) → came_back g ≡ x.account ∷ came_back h
       → out_of g ≡ out_of h - 1 → (done ≡ true → IsDone g) → (is_over x ≡ true → IsOver g)
-      → (me.0.takes ≡ false → x.account.got ≡ []) → MayGive (left_segment x done) slots id me
+      → (me.0.takes ≡ false → x.account.got ≡ []) → x.account.name ≡ me.0.name
+      → MayGive (left_segment x done) slots id me
   unlocks_left x done slots id me y hs stands carried live holds inside h g at is same keeps_ stays back out next over
-      poor = unlocks (left_segment x done) slots id me y hs stands carried live holds refl refl refl refl refl refl refl
+      poor name = unlocks (left_segment x done) slots id me y hs stands carried live holds refl refl refl refl refl refl
+      refl refl
       (λ s k at' part before.
       let v = me.0 in
       let a = x.account in
@@ -146,6 +148,7 @@ module _ {T : Type 0} where
         record {
           named = λ _. (n.0, ap (λ l. record { segment = v.at; account = a } ∷ l) n.1 ∙ sym (by_own m k.all));
           falls = (omega arith, f.falls);
+          names = ((name, f.names.0), f.names.1);
           near = subst (λ l. IsNear l (suc v.at)) (sym now) (inr (v.at, refl, (g, there_, tt)));
           inside = λ q. absurd (true≢false (sym q));
           takes = λ q. subst (λ l. IsNext l (suc v.at)) (sym now) (one_more IsDone (slice_set k.homes v.at g) v.at
@@ -171,7 +174,7 @@ module _ {T : Type 0} where
       → HasIssued h g c p → (b ≡ true → me.0.takes ≡ true)
       → MayGive (came_to c b) slots id me
   unlocks_came b c p g slots id me y hs stands carried live holds outside h at is did next = unlocks
-      (came_to c b) slots id me y hs stands carried live holds refl refl refl refl refl refl refl
+      (came_to c b) slots id me y hs stands carried live holds refl refl refl refl refl refl refl refl
       (λ s k at' part before.
       let v = me.0 in
       let f = k.fits id v at' in
@@ -197,6 +200,7 @@ module _ {T : Type 0} where
         record {
           named = f.named;
           falls = f.falls;
+          names = f.names;
           near = subst (λ l. IsNear l v.at) (sym now) (near_grows k.homes (slice_set k.homes v.at g) grows v.at f.near);
           inside = λ _. subst (λ l. At l v.at (IsShare (Some c))) (sym now)
               (g, set_here k.homes v.at g (there k.homes v.at h here), (c, refl, did.2));
@@ -238,7 +242,7 @@ module _ {T : Type 0} where
       → me.1 ≡ (0, y) ∷ [] → me.0.live ≡ true → me.0.holds ≡ true → me.0.inside ≡ false → hs ≡ me.0.before
       → me.0.at < j → GoesOnTo b me.0.before j → MayGive (went_on j b) slots id me
   unlocks_on b j slots id me y hs stands carried live holds outside is far on = unlocks
-      (went_on j b) slots id me y hs stands carried live holds refl refl refl refl refl refl refl
+      (went_on j b) slots id me y hs stands carried live holds refl refl refl refl refl refl refl refl
       (λ s k at part before.
       let v = me.0 in
       let f = k.fits id v at in
@@ -259,6 +263,7 @@ module _ {T : Type 0} where
         record {
           named = f.named;
           falls = falls_more v.at j v.visits (omega arith) f.falls;
+          names = f.names;
           near = near_over hs j over;
           inside = λ q. absurd (true≢false (sym q ∙ outside));
           takes = λ q. on_next b hs j q there_;

@@ -5,7 +5,7 @@ use mathlib.Core.Option.{some, some-injective, some-ne-none}
 use lib.ListN.{get_elem?}
 use Rattle.atomic_table.specs.Table.{State, opening, Final, Seen}
 use Rattle.mb_channel.specs.Types.{Home, Homes, Knows, Past}
-use Rattle.mb_channel.specs.Homes.{Falls, Fits, IsNone, IsWhole, Keeps, Made, PastFits, Stands, FitsEnd}
+use Rattle.mb_channel.specs.Homes.{AreFates, Falls, Fits, IsNone, IsWhole, Keeps, Made, PastFits, Stands, FitsEnd}
 use Rattle.mb_channel.specs.Homes.{count, first_view, how_many, is_in, made_by, made_count, out_of, past_count, past_of}
 use Rattle.mb_channel.specs.Homes.{rights, times, total}
 use Rattle.mb_channel.proofs.Freed.{all_homes}
@@ -13,7 +13,7 @@ use Rattle.mb_channel.proofs.Views.{in_none, once_more, only, past_map, two_belo
 use Rattle.mb_channel.proofs.Back.{knows_nothing}
 use Rattle.mb_channel.proofs.Moves.{has_part, not_back}
 
-abbrev is_one : ℕ → ℕ → ℕ
+abbrev pub is_one : ℕ → ℕ → ℕ
 is_one n m = if nat_eq m n then 1 else 0
 
 no_times : {A : Type 0} (n : ℕ) (xs : List A) → n ≡ 0 → times n xs ≡ 0
@@ -25,9 +25,9 @@ module _ {T : Type 0} where
   first_is zero v at = sym (some-injective first_view v at)
   first_is (suc id) v at = absurd (some-ne-none v (sym at))
 
-  pub opens : (l : Homes T) → l.list.items ≡ [] → l.first ≡ 0
+  pub opens : (l : Homes T) → l.list.items ≡ [] → l.first ≡ 0 → l.audit.kept.items ≡ []
       → Keeps (opening (0 ∷ 1 ∷ 1 ∷ 1 ∷ 1 ∷ []) (l ∷ []) first_view)
-  opens l is none_freed = record {
+  opens l is none_freed none_kept = record {
     homes = [];
     all = [];
     mark = 1;
@@ -35,7 +35,13 @@ module _ {T : Type 0} where
       l,
       refl,
       refl,
-      record { gone = []; all = sym is; number = sym none_freed; freed = tt },
+      record {
+        gone = [];
+        all = sym is;
+        number = sym none_freed;
+        freed = tt;
+        fates = ([], [], refl, subst (λ xs. AreFates [] xs) (sym none_kept) tt, λ _. none_kept);
+      },
       λ id v at. ap (λ (z : Knows T). z.holds) (first_is id v at),
     );
     leads = λ j lt. absurd (omega arith);
@@ -50,6 +56,7 @@ module _ {T : Type 0} where
     fits = λ id v at. subst (λ (z : Knows T). Fits [] [] (first_view ∷ []) id z) (sym (first_is id v at)) record {
       named = λ l. absurd (true≢false (sym l));
       falls = tt;
+      names = (tt, tt);
       near = inl refl;
       inside = λ l. absurd (true≢false (sym l));
       takes = λ _ j lt. absurd (omega arith);

@@ -7,6 +7,8 @@ use Rattle.mb_channel.specs.declared.place.Place.{Place}
 use Rattle.mb_channel.specs.Deeds.{Deed}
 use Rattle.mb_channel.specs.declared.end.End.{End}
 use Rattle.mb_channel.specs.Closing.{KnowsEnd}
+use Rattle.mb_channel.specs.declared.auditing.Audited.{Audited}
+use Rattle.mb_channel.specs.Fates.{chair_after}
 use Rattle.mb_channel.specs.Lengths.{chair_told}
 use Rattle.mb_channel.specs.Inside.{Log, found_there, known_there, log_in, log_of_past, pass_there, told_in}
 
@@ -17,6 +19,10 @@ view_of e = e.chair.me.0
 abbrev pub end_told : {T : Type 0} → Option ℕ → End T → End T
 end_told told e = record e { chair = chair_told told e.chair }
 
+-- the end after this answer. Nothing else of it is new
+abbrev pub end_after : {T : Type 0} → Audited T → End T → End T
+end_after a e = record e { chair = chair_after a e.chair }
+
 -- all calls by which the end sent a value, and all by which it received one, in order
 abbrev pub sent_by : {T : Type 0} → End T → List (Deed T)
 sent_by e = log_in (λ a. a.sent) (view_of e) (pass_there e.inside)
@@ -25,7 +31,7 @@ abbrev pub got_by : {T : Type 0} → End T → List (Deed T)
 got_by e = log_in (λ a. a.got) (view_of e) (pass_there e.inside)
 
 abbrev pub log_of : {T : Type 0} → End T → Log T
-log_of e = record { number = (view_of e).number; sent = sent_by e; got = got_by e }
+log_of e = record { number = (view_of e).number; name = (view_of e).name; sent = sent_by e; got = got_by e }
 
 -- the logs of the ends that were given back to it
 abbrev pub given_to : {T : Type 0} → End T → List (Log T)
@@ -66,6 +72,7 @@ IsLater v w = (v.chair.me.0.found ≤ w.chair.me.0.found) × ((v.chair.me.0.at <
 pub record IsOne {T : Type 0} (v w : Standing T) : Type 0 where
   pub list : w.chair.table_id ≡ v.chair.table_id
   pub number : w.chair.me.0.number ≡ v.chair.me.0.number
+  pub name : w.chair.me.0.name ≡ v.chair.me.0.name
   pub ended : w.chair.me.0.ended ≡ v.chair.me.0.ended
   pub sends : w.chair.me.0.sends ≡ v.chair.me.0.sends
   pub receives : w.chair.me.0.receives ≡ v.chair.me.0.receives
@@ -78,6 +85,7 @@ IsSame old new = IsOne (stand_of old) (stand_of new)
 -- the view of an end that left its segment: the end is the same, and it counts for as many
 pub record IsLeft {T : Type 0} (old new : Knows T) : Type 0 where
   pub number : new.number ≡ old.number
+  pub name : new.name ≡ old.name
   pub ended : new.ended ≡ old.ended
   pub rights : new.rights ≡ old.rights
   pub sends : new.sends ≡ old.sends

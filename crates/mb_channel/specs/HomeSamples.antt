@@ -1,5 +1,6 @@
 -- Samples of the list of segments. End 0 sent 10 and 11 in segment 0, and 12 in segment 1. End 1 took 10.
 use Rattle.std.specs.Prelude.{ℕ, List, Some, [], true, ◌∷◌}
+use Rattle.mb_segment.specs.declared.left.Fate.{Fate}
 use Rattle.mb_channel.specs.declared.place.Place.{Place}
 use Rattle.mb_channel.specs.Types.{Knows, Past, Visit}
 use Rattle.mb_channel.specs.Deeds.{deed}
@@ -23,7 +24,7 @@ all_visits = made 0 (visit 1 one_sent) ∷ made 1 (visit 0 one_got) ∷ one_visi
 
 -- end 1 was in no segment
 abbrev pub idle_end : Past ℕ
-idle_end = record { number = 1; visits = [] }
+idle_end = record { number = 1; name = 0; visits = [] }
 
 -- the last end has left segment 1
 abbrev pub last_of_two : Knows ℕ
@@ -48,4 +49,12 @@ place k n = record { segment = k; number = n }
 
 -- end 1 sent 10, and did nothing else
 abbrev pub returner : Log ℕ
-returner = record { number = 1; sent = deed 1 (position 3 10) ∷ []; got = [] }
+returner = record { number = 1; name = 7; sent = deed 1 (position 3 10) ∷ []; got = [] }
+
+-- ---- names. End 0 sent 10 and 11 in segment 0, under the name 7
+abbrev pub seven : Knows ℕ
+seven = record first_view { live = true; name = 7; visits = visit 0 (record two_sent { name = 7 }) ∷ [] }
+
+-- a value that an end of this name sent, and one of the name 9 received
+abbrev pub fate : ℕ → Fate
+fate n = record { sender = Some n; receiver = Some 9 }

@@ -6,33 +6,10 @@ use mathlib.Core.Option.{some, none}
 use lib.ListN.{get_elem?}
 use Rattle.atomic_table.specs.Table.{Allows, Me, State, Step, step}
 use Rattle.atomic_table.specs.declared.shared.Seat.{Seat}
-use Rattle.mb_channel.specs.Types.{Account, Arc, Global, Home, Homes, Knows, Pass, Past, Segment, View, Visit, arc_value}
+use Rattle.mb_channel.specs.Types.{Account, Arc, Audit, Global, Home, Homes, Knows, Left, Pass, Past, Segment, View, Visit, arc_value}
 use Rattle.mb_channel.specs.Remembers.{Remembers}
+pub use Rattle.mb_channel.specs.Visits.{AllMade, AllPast, AreNamed, Falls, HasNames, Made, TellsFates, made_by, made_in}
 use Rattle.mb_segment.specs.Vocabulary.{IsWhole as SegmentIsWhole, hub_view, is_over, issued, new_hub, took_back}
-
--- ---- the visits of all ends, the newest first
-pub record Made (T : Type 0) : Type 0 where
-  pub by : ℕ
-  pub visit : Visit T
-
--- of one end
-abbrev pub made_by : {T : Type 0} → ℕ → List (Made T) → List (Visit T)
-made_by n [] = []
-made_by n (m ∷ ms) = if nat_eq m.by n then m.visit ∷ made_by n ms else made_by n ms
-
--- in one segment
-abbrev pub made_in : {T : Type 0} → ℕ → List (Made T) → List (Account T)
-made_in k [] = []
-made_in k (m ∷ ms) = if nat_eq m.visit.segment k then m.visit.account ∷ made_in k ms else made_in k ms
-
-abbrev pub AllMade : {T : Type 0} → (Made T → Type 0) → List (Made T) → Type 0
-AllMade P [] = Unit {0}
-AllMade P (m ∷ ms) = P m × AllMade P ms
-
--- the segments of the visits fall, from below b on: so each end visits a segment once
-abbrev pub Falls : {T : Type 0} → ℕ → List (Visit T) → Type 0
-Falls b [] = Unit {0}
-Falls b (v ∷ vs) = (v.segment < b) × Falls v.segment vs
 
 -- ---- the segments
 -- what the segment's hub knows of the passes that came back, and whether one of them saw that no value can come any more
@@ -60,12 +37,25 @@ abbrev pub AllHomes : {T : Type 0} → (Home T → Type 0) → List (Home T) →
 AllHomes P [] = Unit {0}
 AllHomes P (h ∷ hs) = P h × AllHomes P hs
 
+-- in these segments the values had these fates
+abbrev pub AreFates : {T : Type 0} → List (Home T) → List (Left T Global) → Type 0
+AreFates [] [] = Unit {0}
+AreFates [] (x ∷ xs) = ⊥
+AreFates (h ∷ hs) [] = ⊥
+AreFates (h ∷ hs) (x ∷ xs) = TellsFates x (came_back h) × AreFates hs xs
+
+-- of these segments, the fates in the last are kept, or in none if the channel is not audited
+abbrev pub KeepsFates : {T : Type 0} → List (Home T) → Audit T → Type 0
+KeepsFates {T} gone a = (told : List (Home T)) × (last : List (Home T)) × (gone ≡ told ++ last)
+    × AreFates last a.kept.items × (a.is_on ≡ false → a.kept.items ≡ [])
+
 -- of all segments that there ever were, the oldest are freed, and the others are in the list
 pub record Stands {T : Type 0} (hs : List (Home T)) (l : Homes T) : Type 0 where
   pub gone : List (Home T)
   pub all : hs ≡ gone ++ l.list.items
   pub number : length gone ≡ l.first
   pub freed : AllHomes IsFreed gone
+  pub fates : KeepsFates gone l.audit
 
 -- segment k is there, and P holds of it
 abbrev pub At : {T : Type 0} → List (Home T) → ℕ → (Home T → Type 0) → Type 0
@@ -106,6 +96,7 @@ first_view = record {
   receives = 1;
   live = false;
   number = 0;
+  name = 0;
   visits = [];
   gave = 0;
   inside = false;
@@ -123,6 +114,7 @@ first_view = record {
   last = None;
   found = 0;
   lengths = [];
+  fates = [];
 }
 
 abbrev pub spent_view : {T : Type 0} → Knows T
@@ -187,10 +179,6 @@ abbrev pub made_count : {T : Type 0} → (ℕ → ℕ) → List (Made T) → ℕ
 made_count f [] = 0
 made_count f (m ∷ ms) = f m.by + made_count f ms
 
-abbrev pub AllPast : {T : Type 0} → (Past T → Type 0) → List (Past T) → Type 0
-AllPast P [] = Unit {0}
-AllPast P (p ∷ ps) = P p × AllPast P ps
-
 -- the end was given back
 abbrev pub IsSpent : {T : Type 0} → List (Knows T) → ℕ → Type 0
 IsSpent {T} views n = (w : Knows T) × (get_elem? views n ≡ some w) × (w.rights ≡ 0)
@@ -211,6 +199,7 @@ pub record Fits {T : Type 0} (hs : List (Home T)) (all : List (Made T)) (views :
     (v : Knows T) : Type 0 where
   pub named : v.live ≡ true → (v.number ≡ id) × (v.visits ≡ made_by id all)
   pub falls : Falls v.at v.visits
+  pub names : HasNames v
   pub near : IsNear hs v.at
   pub inside : v.inside ≡ true → IsIn hs v
   pub takes : v.takes ≡ true → IsNext hs v.at
@@ -263,7 +252,7 @@ abbrev pub unlocked : {T : Type 0} → Knows T → Knows T
 unlocked v = record v { holds = false; before = []; is_open = false; may_add = false }
 
 abbrev pub past_of : {T : Type 0} → Knows T → Past T
-past_of v = record { number = v.number; visits = v.visits }
+past_of v = record { number = v.number; name = v.name; visits = v.visits }
 
 abbrev pub told_or : Option ℕ → Option ℕ → Option ℕ
 told_or None b = b
@@ -333,6 +322,7 @@ takes_lock {T} st m r n = (r ≡ 0 → (l : Homes T) × (hs : List (Home T)) × 
 
 abbrev pub gives_lock : {T : Type 0} → (Knows T → Knows T) → Step (Homes T) → Sat T → ℕ → Sat T → Type 0
 gives_lock f st m r n = (n.0 ≡ f (unlocked m.0)) × (n.1 ≡ []) × (n.0.found ≡ m.0.found) × (n.0.lengths ≡ m.0.lengths)
+    × (n.0.fates ≡ m.0.fates)
 
 -- giving the lock back keeps the rule, whatever the other ends do
 abbrev pub MayGive : {T : Type 0} → (Knows T → Knows T) → ℕ → ℕ → Sat T → Type 0

@@ -67,12 +67,14 @@ log_in f k (Some v) = in_visits f k.visits ++ deeds_at k.at (f v.account)
 -- ---- an end that was given back
 pub record Log (T : Type 0) : Type 0 where
   pub number : ℕ
+  pub name : ℕ
   pub sent : List (Deed T)
   pub got : List (Deed T)
 
 abbrev pub log_of_past : {T : Type 0} → Past T → Log T
 log_of_past p = record {
   number = p.number;
+  name = p.name;
   sent = in_visits (λ a. a.sent) p.visits;
   got = in_visits (λ a. a.got) p.visits;
 }

@@ -9,6 +9,8 @@ use Rattle.mb_channel.specs.declared.posting.Posted.TheVariants as posted
 use Rattle.mb_channel.specs.Closing.{KnowsEnd}
 use Rattle.mb_channel.specs.Ends.{Standing}
 use Rattle.mb_channel.specs.Inside.{Log}
+use Rattle.mb_channel.specs.declared.auditing.Audited.{Audited}
+use Rattle.mb_channel.specs.Fates.{chair_after}
 use Rattle.mb_channel.specs.Lengths.{chair_told}
 use Rattle.mb_channel.specs.Places.{pass_at}
 use Rattle.mb_channel.specs.Standing.{NoMore, OneSent, got_in, sent_in}
@@ -21,6 +23,7 @@ stand_kept k = record { chair = k.chair; pass = pass_at k.busy }
 abbrev pub log_kept : {T : Type 0} → KeptSender T → Log T
 log_kept k = record {
   number = k.chair.me.0.number;
+  name = k.chair.me.0.name;
   sent = sent_in (stand_kept k);
   got = got_in (stand_kept k);
 }
@@ -39,6 +42,10 @@ wakes_kept k = wakes (k.chair.me.0.gave + gave_at k.busy) (untold_at k.busy)
 -- the sender that was told this length. Nothing else of it is new
 abbrev pub kept_told : {T : Type 0} → Option ℕ → KeptSender T → KeptSender T
 kept_told told k = record k { chair = chair_told told k.chair }
+
+-- the sender after this answer. Nothing else of it is new
+abbrev pub kept_after : {T : Type 0} → Audited T → KeptSender T → KeptSender T
+kept_after a k = record k { chair = chair_after a k.chair }
 
 -- it owes nothing
 abbrev pub OwesNothing : {T : Type 0} → Option (Busy T) → Type 0

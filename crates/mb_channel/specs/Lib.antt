@@ -3,6 +3,9 @@ pub mod ChannelSamples
 pub mod Segments
 pub mod Stays
 pub mod Types
+pub mod Owned
+pub mod Fates
+pub mod Visits
 pub mod Deeds
 pub mod Remembers
 pub mod Homes

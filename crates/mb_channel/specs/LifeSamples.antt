@@ -47,5 +47,5 @@ visit k a = record { segment = k; account = a }
 abbrev pub last_end : Knows ℕ
 last_end = record first_view {
   visits = visit 1 one_sent ∷ visit 0 two_sent ∷ [];
-  ended = record { number = 1; visits = visit 0 one_got ∷ [] } ∷ [];
+  ended = record { number = 1; name = 0; visits = visit 0 one_got ∷ [] } ∷ [];
 }

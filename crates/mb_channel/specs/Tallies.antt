@@ -4,8 +4,8 @@ use Rattle.atomic_table.specs.Table.{Step}
 use Rattle.mb_channel.specs.Types.{Home, Homes, Knows}
 use Rattle.mb_channel.specs.Homes.{IsNext, Sat, sends}
 
-abbrev pub gets_number : {T : Type 0} → Step (Homes T) → Sat T → ℕ → Sat T → Type 0
-gets_number st m r n = (id : ℕ) × (n ≡ (record m.0 { live = true; number = id }, m.1))
+abbrev pub gets_number : {T : Type 0} → ℕ → Step (Homes T) → Sat T → ℕ → Sat T → Type 0
+gets_number name st m r n = (id : ℕ) × (n ≡ (record m.0 { live = true; number = id; name = name }, m.1))
 
 abbrev pub counts_more : {T : Type 0} → Knows T → Knows T
 counts_more v = record v { rights = v.rights + 1 }

@@ -22,10 +22,12 @@ work_in i = record { segment = i.segment; pass = i.pass.seat.me.0 }
 abbrev pub work_of : {T : Type 0} → Busy T → Work T
 work_of b = record { segment = b.segment; pass = b.pass.seat.me.0 }
 
--- the same segment, where it looked as often or more, and found that none waits. It knows as much or more
+-- the same segment, where it looked as often or more, and found that none waits. It knows as much or more, and has the
+-- same name
 abbrev pub IsThere : {T : Type 0} → Work T → Work T → Type 0
 IsThere v w = (w.segment ≡ v.segment) × (found_empty v.pass ≤ found_empty w.pass)
     × (v.pass.known.drawn ≤ w.pass.known.drawn) × (v.pass.known.taken ≤ w.pass.known.taken)
+    × (w.pass.account.name ≡ v.pass.account.name)
 
 -- nothing was sent or received there, and it was not told now that no value can come
 pub record IsStill {T : Type 0} (v w : Work T) : Type 0 where

@@ -1,4 +1,5 @@
 //! A try to send a value in a segment, which never waits.
+ghost use Rattle.std.specs.Prelude.{◌≡◌};
 ghost use Rattle.mb_channel.specs.Wakes.{Tells, after_attempt, wakes_in};
 ghost use Rattle.mb_channel.specs.Work.{OfAttempt, work_in};
 
@@ -21,7 +22,8 @@ pub enum Attempt<T: Drop> {
 impl<T: Drop> Inside<T> {
     /// Tries to send a value here.
     #[inline(always)]
-    pub(crate) fn try_send(self, value: T) -> Attempt<T>
+    pub(crate) fn try_send(self, value: T, name: u32) -> Attempt<T>
+        requires named { self.pass.seat.me.0.account.name ≡ name }
         ensures answer { OfAttempt result value (work_in self) }
         ensures wakes { Tells 0 (wakes_in self) (after_attempt result) }
     {
@@ -33,7 +35,7 @@ impl<T: Drop> Inside<T> {
             Draw::Full => return Attempt::Over(rested(segment, pass), value),
             Draw::Closed => return Attempt::Over(rested(segment, pass), value),
         };
-        segment.mark(&mut pass, at, value);
+        segment.mark(&mut pass, at, value, name);
         if at + 1 == segment.size() {
             return Attempt::Owes(Busy {
                 segment,

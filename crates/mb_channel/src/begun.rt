@@ -114,7 +114,8 @@ impl<T: Drop> Begun<T> {
 
     /// Marks the position, with the value that it was drawn for. Then it tries to give the token that it owes.
     #[inline(always)]
-    pub(crate) fn mark(self, value: T) -> Busy<T>
+    pub(crate) fn mark(self, value: T, name: u32) -> Busy<T>
+        requires named { self.pass.seat.me.0.account.name ≡ name }
         requires writes { IsWriting value self }
         ensures still { IsStill (work_at self) (work_of result) }
         ensures wakes { Tells 0 (wakes_at self) (wakes_by result) }
@@ -125,7 +126,7 @@ impl<T: Drop> Begun<T> {
             position,
             debt,
         } = self;
-        segment.mark(&mut pass, position, value);
+        segment.mark(&mut pass, position, value, name);
         if debt != Debt::Token {
             return Busy {
                 segment,
@@ -147,7 +148,8 @@ impl<T: Drop> Begun<T> {
 
     /// Reads the value of the position.
     #[inline(always)]
-    pub(crate) fn read(self) -> (T, Inside<T>)
+    pub(crate) fn read(self, name: u32) -> (T, Inside<T>)
+        requires named { self.pass.seat.me.0.account.name ≡ name }
         requires reads { (x : T) × IsReading x self }
         ensures value { (x : T) → IsReading x self → result.0 ≡ x }
         ensures still { IsStill (work_at self) (work_in result.1) }
@@ -159,7 +161,7 @@ impl<T: Drop> Begun<T> {
             position,
             debt: _,
         } = self;
-        let value = segment.read(&mut pass, position);
+        let value = segment.read(&mut pass, position, name);
         (value, rested(segment, pass))
     }
 }

@@ -48,7 +48,8 @@ impl<T: Drop> End<T> {
         if at == usize::MAX {
             return Err(Refused::Crowded);
         }
-        match self.list.come(&mut self.chair, at, takes, adds) {
+        let name = self.name;
+        match self.list.come(&mut self.chair, name, at, takes, adds) {
             Came::Here(segment, pass) => {
                 let pass = pass.rest();
                 self.inside = Some(Inside { segment, pass });

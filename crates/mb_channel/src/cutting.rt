@@ -2,6 +2,7 @@
 ghost use Rattle.std.specs.Prelude.{ℕ, ◌≡◌, ◌++◌, ◌∷◌, [], true, false};
 ghost use Rattle.mb_segment.specs.Vocabulary.{is_over};
 ghost use Rattle.mb_channel.specs.Inside.{account_in, told_in};
+ghost use Rattle.mb_channel.specs.Returned.{new_log};
 ghost use Rattle.mb_channel.specs.Tallies.{saw_closed};
 ghost use Rattle.mb_channel.specs.Work.{IsThere, work_in};
 ghost use Rattle.mb_channel.specs.Ends.{AreOfOneChannel, HasEnded, IsBehind, IsLater, IsSame, SawOver, StaysTold};
@@ -119,7 +120,7 @@ impl<T: Drop> Receiver<T> {
         ensures closed { (view_of self.new.end).shut ≡ true }
         ensures ended { result ≡ true → HasEnded self.new.end }
         ensures given { result ≡ true → (n : ℕ) × (given_to self.new.end
-            ≡ given_to self.old.end ++ record { number = n; sent = []; got = [] } ∷ []) }
+            ≡ given_to self.old.end ++ new_log n (view_of self.old.end).name ∷ []) }
         ensures refused { result ≡ false → (self.new.end.inside ≡ self.old.end.inside)
             × (view_of self.new.end ≡ saw_closed (view_of self.old.end)) }
     {
@@ -127,7 +128,8 @@ impl<T: Drop> Receiver<T> {
         let Some(list) = self.end.count_one() else {
             return false;
         };
-        let mut other = self.end.split::<AsNobody>(list);
+        let name = self.end.name;
+        let mut other = self.end.split::<AsNobody>(list, name);
         other.cut_all(rt);
         self.end.take_in(rt, other);
         true

@@ -15,6 +15,7 @@ pub struct Debtor<T: Drop> {
     pub(crate) chair: Chair<T>,
     pub(crate) at: usize,
     pub(crate) rights: u64,
+    pub(crate) name: u32,
     pub(crate) busy: Busy<T>,
     pub(crate) over: bool,
     ghost same: { chair.table_id ≡ (arc_value list).table.shared.table_id },
@@ -22,6 +23,9 @@ pub struct Debtor<T: Drop> {
     ghost here: { (view_in chair).at ≡ at },
     ghost counts: { 0 < (view_in chair).rights },
     ghost counted: { rights < 18446744073709551615 → (view_in chair).rights ≡ rights },
+    ghost called: { (view_in chair).name ≡ name },
+    ghost short: { name < 4294967295 },
+    ghost named: { busy.pass.seat.me.0.account.name ≡ name },
     ghost inside: { (view_in chair).inside ≡ true },
     ghost place: { (view_in chair).place ≡ Some busy.segment },
     ghost orderly: { (view_in chair).orderly ≡ true },
@@ -41,7 +45,7 @@ pub enum Step<T: Drop> {
 }
 
 impl<T: Drop> End<T> {
-    ghost use Rattle.std.specs.Prelude.{is_some};
+    ghost use Rattle.std.specs.Prelude.{is_some, true};
     ghost use Rattle.mb_channel.specs.declared.debtor.Step.TheVariants as step;
     ghost use Rattle.mb_channel.specs.Ends.{stand_of};
     ghost use Rattle.mb_channel.specs.Standing.{OfStep};
@@ -56,7 +60,17 @@ impl<T: Drop> End<T> {
         if self.inside.is_none() {
             return Step::Over(self, value);
         }
-        let (at, rights, over) = (self.at, self.rights, self.over);
+        self.send_inside(value)
+    }
+
+    /// The same of an end that is in a segment.
+    #[inline(always)]
+    fn send_inside(self, value: T) -> Step<T>
+        requires inside { is_some self.inside ≡ true }
+        ensures answer { OfStep result value (stand_of self) }
+        ensures wakes { Tells 0 (wakes_of self) (after_step result) }
+    {
+        let (at, rights, name, over) = (self.at, self.rights, self.name, self.over);
         let End {
             list,
             chair,
@@ -64,7 +78,7 @@ impl<T: Drop> End<T> {
             ..
         } = self;
         let Some(inside) = inside else { unreachable!() };
-        let (inside, back) = match inside.try_send(value) {
+        let (inside, back) = match inside.try_send(value, name) {
             Attempt::Sent(inside) => (inside, None),
             Attempt::Again(inside, value) => (inside, Some((value, true))),
             Attempt::Over(inside, value) => (inside, Some((value, false))),
@@ -74,6 +88,7 @@ impl<T: Drop> End<T> {
                     chair,
                     at,
                     rights,
+                    name,
                     busy,
                     over,
                 });
@@ -84,6 +99,7 @@ impl<T: Drop> End<T> {
             chair,
             at,
             rights,
+            name,
             inside: Some(inside),
             over,
             behind: false,
@@ -113,6 +129,7 @@ impl<T: Drop> Debtor<T> {
             chair,
             at,
             rights,
+            name,
             busy,
             over,
         } = self;
@@ -121,6 +138,7 @@ impl<T: Drop> Debtor<T> {
             chair,
             at,
             rights,
+            name,
             inside: Some(busy.pay(rt)),
             over,
             behind: false,
@@ -141,6 +159,7 @@ impl<T: Drop> Debtor<T> {
             chair,
             at,
             rights,
+            name,
             busy,
             over,
         } = self;
@@ -150,6 +169,7 @@ impl<T: Drop> Debtor<T> {
                 chair,
                 at,
                 rights,
+                name,
                 inside: Some(inside),
                 over,
                 behind: false,
@@ -159,6 +179,7 @@ impl<T: Drop> Debtor<T> {
                 chair,
                 at,
                 rights,
+                name,
                 busy,
                 over,
             }),

@@ -2,7 +2,8 @@
 ghost use Rattle.std.specs.Prelude.{◌≡◌, ◌<◌, [], true, false, is_some};
 ghost use Rattle.std.specs.Arc.{arc_value};
 ghost use Rattle.mb_channel.specs.Homes.{IsReady, view_in};
-ghost use Rattle.mb_channel.specs.Inside.{got_there, share_in, told_there};
+ghost use Rattle.mb_channel.specs.Inside.{got_there, pass_there, share_in, told_there};
+ghost use Rattle.mb_channel.specs.Visits.{name_there};
 ghost use Rattle.mb_channel.specs.Closing.{KnowsEnd};
 
 use crate::inside::Inside;
@@ -22,6 +23,8 @@ pub struct End<T: Drop> {
     pub(crate) at: usize,
     /// For how many ends it counts, if that is below 2^64 - 1.
     pub(crate) rights: u64,
+    /// The name under which it sends and receives, or 0.
+    pub(crate) name: u32,
     pub(crate) inside: Option<Inside<T>>,
     /// Whether it was told that no value can come any more in the segment where it is.
     pub(crate) over: bool,
@@ -32,6 +35,9 @@ pub struct End<T: Drop> {
     ghost here: { (view_in chair).at ≡ at },
     ghost counts: { 0 < (view_in chair).rights },
     ghost counted: { rights < 18446744073709551615 → (view_in chair).rights ≡ rights },
+    ghost called: { (view_in chair).name ≡ name },
+    ghost short: { name < 4294967295 },
+    ghost named: { is_some inside ≡ true → name_there (pass_there inside) ≡ name },
     ghost inside_: { (view_in chair).inside ≡ is_some inside },
     ghost place: { is_some inside ≡ true → (view_in chair).place ≡ share_in inside },
     ghost orderly: { (view_in chair).orderly ≡ true },
@@ -78,7 +84,7 @@ impl<T: Drop> End<T> {
         let Some(inside) = self.inside.take() else {
             return Err(value);
         };
-        let (inside, sent) = inside.send(rt, value);
+        let (inside, sent) = inside.send(rt, value, self.name);
         self.inside = Some(inside);
         sent
     }
@@ -96,7 +102,7 @@ impl<T: Drop> End<T> {
             → (result ≡ None) × (self.new ≡ self.old) }
     {
         let inside = self.inside.take()?;
-        let (inside, got) = inside.receive(rt);
+        let (inside, got) = inside.receive(rt, self.name);
         self.inside = Some(inside);
         if got.is_none() {
             self.over = true;
@@ -130,7 +136,7 @@ impl<T: Drop> End<T> {
         let Some(inside) = self.inside.take() else {
             return Received::Over;
         };
-        let (inside, got) = inside.receive_by(rt, deadline);
+        let (inside, got) = inside.receive_by(rt, deadline, self.name);
         self.inside = Some(inside);
         if matches!(&got, Received::Over) {
             self.over = true;
@@ -156,7 +162,7 @@ impl<T: Drop> End<T> {
         ensures wakes { Tells 0 (wakes_of self.old) (wakes_of self.new) }
     {
         let inside = self.inside.take()?;
-        let (inside, tried) = inside.try_receive();
+        let (inside, tried) = inside.try_receive(self.name);
         // (a plain write would look whether there is something to drop)
         mem::forget(mem::replace(&mut self.inside, Some(inside)));
         if tried.is_none() {

@@ -53,6 +53,7 @@ impl<T: Drop> End<T> {
             chair,
             at,
             rights,
+            name,
             inside,
             over,
             behind: _,
@@ -69,6 +70,7 @@ impl<T: Drop> End<T> {
                 chair,
                 at,
                 rights,
+                name,
                 inside: Some(rested(segment, pass)),
                 over,
                 behind: false,
@@ -90,6 +92,7 @@ impl<T: Drop> End<T> {
         ensures last { is_some (view_of other).last ≡ true
             → is_some (view_of self.new).last ≡ true }
         ensures number { (view_of self.new).number ≡ (view_of self.old).number }
+        ensures name { (view_of self.new).name ≡ (view_of self.old).name }
         ensures takes { (view_of self.new).takes ≡ (view_of self.old).takes }
         ensures receives { (view_of self.old).receives ≤ (view_of self.new).receives }
         ensures sent { sent_by self.new ≡ sent_by self.old }

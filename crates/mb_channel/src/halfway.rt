@@ -15,6 +15,7 @@ pub struct Halfway<T: Drop> {
     pub(crate) chair: Chair<T>,
     pub(crate) at: usize,
     pub(crate) rights: u64,
+    pub(crate) name: u32,
     pub(crate) begun: Begun<T>,
     pub(crate) over: bool,
     ghost same: { chair.table_id ≡ (arc_value list).table.shared.table_id },
@@ -22,6 +23,9 @@ pub struct Halfway<T: Drop> {
     ghost here: { (view_in chair).at ≡ at },
     ghost counts: { 0 < (view_in chair).rights },
     ghost counted: { rights < 18446744073709551615 → (view_in chair).rights ≡ rights },
+    ghost called: { (view_in chair).name ≡ name },
+    ghost short: { name < 4294967295 },
+    ghost named: { begun.pass.seat.me.0.account.name ≡ name },
     ghost inside: { (view_in chair).inside ≡ true },
     ghost place: { (view_in chair).place ≡ Some begun.segment },
     ghost orderly: { (view_in chair).orderly ≡ true },
@@ -52,7 +56,7 @@ impl<T: Drop> End<T> {
         if self.inside.is_none() {
             return Err((self, Miss::Over));
         }
-        let (at, rights, over) = (self.at, self.rights, self.over);
+        let (at, rights, name, over) = (self.at, self.rights, self.name, self.over);
         let End {
             list,
             chair,
@@ -66,6 +70,7 @@ impl<T: Drop> End<T> {
                 chair,
                 at,
                 rights,
+                name,
                 begun,
                 over,
             }),
@@ -75,6 +80,7 @@ impl<T: Drop> End<T> {
                     chair,
                     at,
                     rights,
+                    name,
                     inside: Some(inside),
                     over,
                     behind: false,
@@ -99,7 +105,7 @@ impl<T: Drop> End<T> {
         if self.inside.is_none() {
             return Err((self, Miss::Over));
         }
-        let (at, rights, over) = (self.at, self.rights, self.over);
+        let (at, rights, name, over) = (self.at, self.rights, self.name, self.over);
         let End {
             list,
             chair,
@@ -113,6 +119,7 @@ impl<T: Drop> End<T> {
                 chair,
                 at,
                 rights,
+                name,
                 begun,
                 over,
             }),
@@ -123,6 +130,7 @@ impl<T: Drop> End<T> {
                     chair,
                     at,
                     rights,
+                    name,
                     inside: Some(inside),
                     over,
                     behind: false,
@@ -163,6 +171,7 @@ impl<T: Drop> Halfway<T> {
             chair,
             at,
             rights,
+            name,
             begun,
             over,
         } = self;
@@ -171,7 +180,8 @@ impl<T: Drop> Halfway<T> {
             chair,
             at,
             rights,
-            busy: begun.mark(value),
+            name,
+            busy: begun.mark(value, name),
             over,
         }
     }
@@ -190,10 +200,11 @@ impl<T: Drop> Halfway<T> {
             chair,
             at,
             rights,
+            name,
             begun,
             over,
         } = self;
-        let (value, inside) = begun.read();
+        let (value, inside) = begun.read(name);
         (
             value,
             End {
@@ -201,6 +212,7 @@ impl<T: Drop> Halfway<T> {
                 chair,
                 at,
                 rights,
+                name,
                 inside: Some(inside),
                 over,
                 behind: false,

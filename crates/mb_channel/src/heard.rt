@@ -24,7 +24,8 @@ pub enum Heard<T> {
 
 impl<T: Drop> Inside<T> {
     /// Looks for a value here. If none is there, it enters the list of those that wait, and looks again.
-    pub(crate) fn poll(self) -> (Busy<T>, Heard<T>)
+    pub(crate) fn poll(self, name: u32) -> (Busy<T>, Heard<T>)
+        requires named { self.pass.seat.me.0.account.name ≡ name }
         ensures looked { OfHeard result.1 (work_in self) result.0 }
         ensures wakes { Tells 0 (wakes_in self) (wakes_by result.0) }
         ensures saw { IfAsleep result.1 (SawNothing (found_empty (work_in self).pass)
@@ -36,14 +37,15 @@ impl<T: Drop> Inside<T> {
             pass: pass.pass(),
             debt: Debt::Nothing,
         };
-        let heard = busy.look_first();
+        let heard = busy.look_first(name);
         (busy, heard)
     }
 }
 
 impl<T: Drop> Busy<T> {
     /// Looks. If no value is there, it enters the list.
-    fn look_first(&mut self) -> Heard<T>
+    fn look_first(&mut self, name: u32) -> Heard<T>
+        requires named { self.old.pass.seat.me.0.account.name ≡ name }
         requires nothing { self.old.debt ≡ owed.Nothing }
         ensures looked { OfHeard result (work_of self.old) self.new }
         ensures wakes { Tells 0 (wakes_by self.old) (wakes_by self.new) }
@@ -53,19 +55,20 @@ impl<T: Drop> Busy<T> {
         match self.segment.look(&mut self.pass) {
             Look::Ready(at) => {
                 if self.segment.claim(&mut self.pass, at) {
-                    Heard::Value(self.segment.read(&mut self.pass, at))
+                    Heard::Value(self.segment.read(&mut self.pass, at, name))
                 } else {
                     Heard::Again
                 }
             }
             Look::Yield => Heard::Again,
             Look::Over => Heard::Over,
-            Look::Empty => self.enter(),
+            Look::Empty => self.enter(name),
         }
     }
 
     /// Enters the list of those that wait, and looks.
-    fn enter(&mut self) -> Heard<T>
+    fn enter(&mut self, name: u32) -> Heard<T>
+        requires named { self.old.pass.seat.me.0.account.name ≡ name }
         requires nothing { self.old.debt ≡ owed.Nothing }
         ensures looked { OfHeard result (work_of self.old) self.new }
         ensures wakes { Tells 0 (wakes_by self.old) (wakes_by self.new) }
@@ -76,11 +79,12 @@ impl<T: Drop> Busy<T> {
             return Heard::Again;
         }
         self.debt = Debt::Fresh;
-        self.look_listed()
+        self.look_listed(name)
     }
 
     /// Looks, in the list.
-    fn look_listed(&mut self) -> Heard<T>
+    fn look_listed(&mut self, name: u32) -> Heard<T>
+        requires named { self.old.pass.seat.me.0.account.name ≡ name }
         requires fresh { self.old.debt ≡ owed.Fresh }
         ensures looked { OfHeard result (work_of self.old) self.new }
         ensures wakes { Tells 0 (wakes_by self.old) (wakes_by self.new) }
@@ -92,7 +96,7 @@ impl<T: Drop> Busy<T> {
                 if !self.segment.claim_listed(&mut self.pass, at) {
                     return Heard::Again;
                 }
-                let value = self.segment.read(&mut self.pass, at);
+                let value = self.segment.read(&mut self.pass, at, name);
                 self.debt = Debt::Leave;
                 self.leave();
                 Heard::Value(value)
@@ -112,7 +116,8 @@ impl<T: Drop> Busy<T> {
 
     /// One that sleeps takes a token, and looks. It sleeps on if no token is there. If another pass was first at the
     /// list, it stops waiting.
-    pub(crate) fn wake_up(&mut self) -> Heard<T>
+    pub(crate) fn wake_up(&mut self, name: u32) -> Heard<T>
+        requires named { self.old.pass.seat.me.0.account.name ≡ name }
         requires asleep { self.old.debt ≡ owed.Asleep }
         ensures looked { OfHeard result (work_of self.old) self.new }
         ensures wakes { Tells 0 (wakes_by self.old) (wakes_by self.new) }
@@ -126,13 +131,14 @@ impl<T: Drop> Busy<T> {
             }
             Rest::Woken => {
                 self.debt = Debt::Look;
-                self.look_woken()
+                self.look_woken(name)
             }
         }
     }
 
     /// Looks, for a token that it took.
-    fn look_woken(&mut self) -> Heard<T>
+    fn look_woken(&mut self, name: u32) -> Heard<T>
+        requires named { self.old.pass.seat.me.0.account.name ≡ name }
         requires look { self.old.debt ≡ owed.Look }
         ensures looked { OfHeard result (work_of self.old) self.new }
         ensures wakes { Tells 0 (wakes_by self.old) (wakes_by self.new) }
@@ -143,7 +149,7 @@ impl<T: Drop> Busy<T> {
                     return Heard::Again;
                 }
                 self.debt = Debt::Nothing;
-                Heard::Value(self.segment.read(&mut self.pass, at))
+                Heard::Value(self.segment.read(&mut self.pass, at, name))
             }
             Look::Yield => Heard::Again,
             Look::Over => {

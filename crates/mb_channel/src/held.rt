@@ -63,6 +63,7 @@ impl<T: Drop> Debtor<T> {
             chair,
             at: _,
             rights: _,
+            name: _,
             busy,
             over: _,
         } = self;

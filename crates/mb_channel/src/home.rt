@@ -4,7 +4,7 @@ ghost use Rattle.std.specs.Arc.{arc_value};
 ghost use Rattle.mb_segment.specs.declared.view.Role.{TheVariants.Issuer};
 ghost use Rattle.mb_segment.specs.Vocabulary.{hub_view};
 
-use mb_segment::{Hub, Segment};
+use mb_segment::{Hub, Left, Segment};
 use std::alloc::Global;
 use std::collections::VecDeque;
 use std::sync::Arc;
@@ -33,4 +33,21 @@ pub struct Homes<T: Drop> {
     /// How many are freed.
     pub(crate) first: usize,
     pub(crate) list: VecDeque<Home<T>, Global>,
+    pub(crate) audit: Audit<T>,
+}
+
+/// What a list keeps of the segments that are freed.
+#[derive(Drop)]
+pub struct Audit<T: Drop> {
+    /// Whether the channel is audited.
+    pub(crate) is_on: bool,
+    /// The fates in those that were freed last, the oldest first. The fates in those before were told, or not kept.
+    pub(crate) kept: VecDeque<Left<T>, Global>,
+}
+
+/// Who sent and who received each value of a segment that was freed.
+#[derive(Drop)]
+pub struct Fates<T: Drop> {
+    pub(crate) segment: usize,
+    pub(crate) left: Left<T>,
 }

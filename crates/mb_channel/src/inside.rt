@@ -26,16 +26,17 @@ impl<T: Drop> Inside<T> {
 
     /// Sends a value here. It comes back if no more can be sent here.
     #[inline(always)]
-    pub(crate) fn send<R: Wait>(self, rt: &R, value: T) -> (Inside<T>, Result<(), T>)
+    pub(crate) fn send<R: Wait>(self, rt: &R, value: T, name: u32) -> (Inside<T>, Result<(), T>)
+        requires named { self.pass.seat.me.0.account.name ≡ name }
         ensures sent { OnOk result.1 (HasSent value (work_in self) (work_in result.0)) }
         ensures back { IfErr result.1 (λ x. (x ≡ value)
             × IsStill (work_in self) (work_in result.0)
             × (is_over result.0.pass.seat.me.0 ≡ true)) }
     {
-        match self.try_send(value) {
+        match self.try_send(value, name) {
             Attempt::Sent(inside) => (inside, Ok(())),
             Attempt::Owes(busy) => (busy.pay(rt), Ok(())),
-            Attempt::Again(inside, value) => inside.send_slowly(rt, value),
+            Attempt::Again(inside, value) => inside.send_slowly(rt, value, name),
             Attempt::Over(inside, value) => (inside, Err(value)),
         }
     }
@@ -43,7 +44,8 @@ impl<T: Drop> Inside<T> {
     /// The same where another was first.
     #[cold]
     #[inline(never)]
-    fn send_slowly<R: Wait>(self, rt: &R, value: T) -> (Inside<T>, Result<(), T>)
+    fn send_slowly<R: Wait>(self, rt: &R, value: T, name: u32) -> (Inside<T>, Result<(), T>)
+        requires named { self.pass.seat.me.0.account.name ≡ name }
         ensures sent { OnOk result.1 (HasSent value (work_in self) (work_in result.0)) }
         ensures back { IfErr result.1 (λ x. (x ≡ value)
             × IsStill (work_in self) (work_in result.0)
@@ -51,7 +53,7 @@ impl<T: Drop> Inside<T> {
     {
         let Inside { segment, pass } = self;
         let mut pass = pass.pass();
-        match segment.send(rt, &mut pass, value) {
+        match segment.send(rt, &mut pass, value, name) {
             Ok(()) => (rested(segment, pass), Ok(())),
             Err(refused) => (rested(segment, pass), Err(value_in(refused))),
         }
@@ -59,15 +61,16 @@ impl<T: Drop> Inside<T> {
 
     /// Receives a value here. `None` only if none can come any more.
     #[inline(always)]
-    pub(crate) fn receive<R: Wait>(self, rt: &R) -> (Inside<T>, Option<T>)
+    pub(crate) fn receive<R: Wait>(self, rt: &R, name: u32) -> (Inside<T>, Option<T>)
+        requires named { self.pass.seat.me.0.account.name ≡ name }
         ensures got { IfSome result.1 (λ x. HasGot x (work_in self) (work_in result.0)) }
         ensures over { IfNone result.1 (IsTold (work_in self) (work_in result.0)) }
     {
-        let (inside, tried) = self.try_receive();
+        let (inside, tried) = self.try_receive(name);
         match tried {
             Some(Tried::Value(value)) => (inside, Some(value)),
-            Some(Tried::Empty) => inside.receive_slowly(rt),
-            Some(Tried::Again) => inside.receive_slowly(rt),
+            Some(Tried::Empty) => inside.receive_slowly(rt, name),
+            Some(Tried::Again) => inside.receive_slowly(rt, name),
             None => (inside, None),
         }
     }
@@ -75,13 +78,14 @@ impl<T: Drop> Inside<T> {
     /// The same where no value was there.
     #[cold]
     #[inline(never)]
-    fn receive_slowly<R: Wait>(self, rt: &R) -> (Inside<T>, Option<T>)
+    fn receive_slowly<R: Wait>(self, rt: &R, name: u32) -> (Inside<T>, Option<T>)
+        requires named { self.pass.seat.me.0.account.name ≡ name }
         ensures got { IfSome result.1 (λ x. HasGot x (work_in self) (work_in result.0)) }
         ensures over { IfNone result.1 (IsTold (work_in self) (work_in result.0)) }
     {
         let Inside { segment, pass } = self;
         let mut pass = pass.pass();
-        let got = segment.receive(rt, &mut pass);
+        let got = segment.receive(rt, &mut pass, name);
         (rested(segment, pass), got)
     }
 }
@@ -100,20 +104,23 @@ impl<T: Drop> Inside<T> {
         self,
         rt: &R,
         deadline: Instant,
+        name: u32,
     ) -> (Inside<T>, Received<T>)
+        requires named { self.pass.seat.me.0.account.name ≡ name }
         ensures answer { let v = work_in self in let w = work_in result.0 in OfReceived result.1
             (λ x. HasGot x v w) (IsTold v w)
             (IsStill v w × SawNothing (found_empty v.pass) w.pass) }
     {
         let Inside { segment, pass } = self;
         let mut pass = pass.pass();
-        let received = segment.receive_by(rt, &mut pass, deadline);
+        let received = segment.receive_by(rt, &mut pass, deadline, name);
         (rested(segment, pass), received)
     }
 
     /// Tries to receive a value here. `None` only if none can come any more.
     #[inline(always)]
-    pub(crate) fn try_receive(self) -> (Inside<T>, Option<Tried<T>>)
+    pub(crate) fn try_receive(self, name: u32) -> (Inside<T>, Option<Tried<T>>)
+        requires named { self.pass.seat.me.0.account.name ≡ name }
         ensures answer { let v = work_in self in let w = work_in result.0 in IfSome result.1
             (λ t. OfTried t (λ x. HasGot x v w)
             (IsStill v w × SawNothing (found_empty v.pass) w.pass) (IsStill v w)) }
@@ -125,7 +132,7 @@ impl<T: Drop> Inside<T> {
         match segment.look(&mut pass) {
             Look::Ready(at) => {
                 if segment.claim(&mut pass, at) {
-                    let value = segment.read(&mut pass, at);
+                    let value = segment.read(&mut pass, at, name);
                     (rested(segment, pass), Some(Tried::Value(value)))
                 } else {
                     (rested(segment, pass), Some(Tried::Again))

@@ -3,7 +3,8 @@ ghost use Rattle.std.specs.Prelude.{◌≡◌, ◌<◌, [], true, false, is_some
 ghost use Rattle.std.specs.Arc.{arc_value};
 ghost use Rattle.mb_channel.specs.Homes.{IsReady, view_in};
 ghost use Rattle.mb_channel.specs.Closing.{KnowsEnd};
-ghost use Rattle.mb_channel.specs.Places.{got_at, share_at, told_at};
+ghost use Rattle.mb_channel.specs.Places.{got_at, pass_at, share_at, told_at};
+ghost use Rattle.mb_channel.specs.Visits.{name_there};
 
 use crate::busy::{Busy, Debt};
 use crate::debtor::Debtor;
@@ -20,6 +21,7 @@ pub struct KeptSender<T: Drop> {
     pub(crate) chair: Chair<T>,
     pub(crate) at: usize,
     pub(crate) rights: u64,
+    pub(crate) name: u32,
     pub(crate) busy: Option<Busy<T>>,
     pub(crate) over: bool,
     pub(crate) behind: bool,
@@ -28,6 +30,9 @@ pub struct KeptSender<T: Drop> {
     ghost here: { (view_in chair).at ≡ at },
     ghost counts: { 0 < (view_in chair).rights },
     ghost counted: { rights < 18446744073709551615 → (view_in chair).rights ≡ rights },
+    ghost called: { (view_in chair).name ≡ name },
+    ghost short: { name < 4294967295 },
+    ghost named: { is_some busy ≡ true → name_there (pass_at busy) ≡ name },
     ghost inside: { (view_in chair).inside ≡ is_some busy },
     ghost place: { is_some busy ≡ true → (view_in chair).place ≡ share_at busy },
     ghost orderly: { (view_in chair).orderly ≡ true },
@@ -76,6 +81,7 @@ impl<T: Drop> Sender<T> {
             chair,
             at,
             rights,
+            name,
             inside,
             over,
             behind,
@@ -89,6 +95,7 @@ impl<T: Drop> Sender<T> {
             chair,
             at,
             rights,
+            name,
             busy,
             over,
             behind,
@@ -112,6 +119,7 @@ impl<T: Drop> Owing<T> {
             chair,
             at,
             rights,
+            name,
             busy,
             over,
         } = debtor;
@@ -120,6 +128,7 @@ impl<T: Drop> Owing<T> {
             chair,
             at,
             rights,
+            name,
             busy: Some(busy),
             over,
             behind: false,
@@ -160,13 +169,14 @@ impl<T: Drop> KeptSender<T> {
             → (result ≡ posted.Back value) × (self.new ≡ self.old) }
         ensures chair { self.new.chair ≡ self.old.chair }
     {
+        let name = self.name;
         let Some(busy) = &mut self.busy else {
             return Posted::Back(value);
         };
         if busy.debt != Debt::Nothing {
             return Posted::Back(value);
         }
-        busy.send_here(value)
+        busy.send_here(value, name)
     }
 
     /// The sender, or, if it owes something, that.
@@ -184,11 +194,23 @@ impl<T: Drop> KeptSender<T> {
         if self.owes() {
             return Err(self.owing());
         }
+        Ok(self.settled())
+    }
+
+    /// The sender, which owes nothing.
+    fn settled(self) -> Sender<T>
+        requires settled { IsSettled self }
+        ensures stand { stand_of result.end ≡ stand_kept self }
+        ensures log { log_of result.end ≡ log_kept self }
+        ensures wakes { wakes_of result.end ≡ wakes_kept self }
+        ensures behind { result.end.behind ≡ self.behind }
+    {
         let KeptSender {
             list,
             chair,
             at,
             rights,
+            name,
             busy,
             over,
             behind,
@@ -199,24 +221,26 @@ impl<T: Drop> KeptSender<T> {
                 chair,
                 at,
                 rights,
+                name,
                 inside: None,
                 over,
                 behind,
             };
-            return Ok(Sender { end });
+            return Sender { end };
         };
         match busy.rest() {
-            Ok(inside) => Ok(Sender {
+            Ok(inside) => Sender {
                 end: End {
                     list,
                     chair,
                     at,
                     rights,
+                    name,
                     inside: Some(inside),
                     over,
                     behind,
                 },
-            }),
+            },
             Err(_) => unreachable!(),
         }
     }
@@ -232,6 +256,7 @@ impl<T: Drop> KeptSender<T> {
             chair,
             at,
             rights,
+            name,
             busy,
             over,
             behind: _,
@@ -243,6 +268,7 @@ impl<T: Drop> KeptSender<T> {
                 chair,
                 at,
                 rights,
+                name,
                 busy,
                 over,
             },
@@ -256,6 +282,7 @@ impl<T: Drop> KeptSender<T> {
             chair,
             at: _,
             rights: _,
+            name: _,
             busy,
             over: _,
             behind: _,

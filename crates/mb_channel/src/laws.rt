@@ -1,11 +1,11 @@
 //! The laws of a channel. The functions compute nothing: their contracts are the laws.
-ghost use Rattle.std.specs.Prelude.{ℕ, List, Some, length, suc, true, ◌++◌, ◌<◌, ◌≡◌};
+ghost use Rattle.std.specs.Prelude.{ℕ, List, Option, Some, length, suc, true, ◌++◌, ◌<◌, ◌≡◌};
 ghost use mathlib.Core.Option.{some};
 ghost use lib.ListN.{get_elem?};
 ghost use Rattle.atomic_table.specs.Table.{Step};
 ghost use Rattle.mb_channel.specs.ChannelTheorem.{EachMoment, End, History, Moment, Segment, TakenInTurn, WholeLife, entries, left, life, sent, taken};
 ghost use Rattle.mb_channel.specs.Stays.{AreStays, Told, life_of};
-ghost use Rattle.mb_channel.specs.Types.{Home, Homes, Knows};
+ghost use Rattle.mb_channel.specs.Types.{Fates, Home, Homes, Knows};
 ghost use Rattle.mb_segment.specs.Vocabulary.{FindsEmpty, SegmentState};
 ghost use Rattle.mb_channel.specs.Closing.{AreStates, IsClosedOff, IsFinished, ListState, NoneWaits};
 ghost use Rattle.mb_channel.specs.Homes.{AllHomes, At, IsShut, IsWhole, Keeps, Sat, sends, total};
@@ -15,10 +15,10 @@ ghost use Rattle.mb_channel.specs.Returned.{OneReturned};
 ghost use Rattle.mb_channel.specs.Segments.{AreLogs, EachKeeps, InTurn, KeepsEnd};
 ghost use Rattle.mb_channel.specs.States.{OnlyReceiversTake, moment_of};
 ghost use Rattle.mb_channel.specs.Tallies.{sees_senders};
+ghost use Rattle.mb_channel.specs.Owned.{Fate, HasTaken, IsFateOf, IsOwned, IsTrue, Place, gives_fates, is_fate};
 ghost use Rattle.mb_channel.specs.Lengths.{HasSummed, IsKnown, gives_length};
 ghost use Rattle.mb_channel.specs.Deeds.{Deed, IsUpTo, OneMore};
 ghost use Rattle.mb_channel.specs.Told.{AllTell, KeepsOrder, index};
-ghost use Rattle.mb_channel.specs.declared.place.Place.{Place};
 
 /// At each moment: let each segment keep its own rule, let them follow each other in turn, and let what is said of the
 /// channel's end be true. Then the channel's points hold.
@@ -91,7 +91,8 @@ pub fn told_comes_later<T: Drop>()
         → KeepsOrder hs (record { place = a.place; value = x })
         → index hs a.place < index hs b.place }
     ensures returned { (x y : T) (k l m : Place) (bs cs : List (Deed T)) (ks ls : List (Log T))
-        (hs : List (Home T)) (a : OneMore x k l bs cs) (b : OneReturned y m ks ls) → IsUpTo l m
+        (hs : List (Home T)) (n : ℕ) (a : OneMore x k l bs cs) (b : OneReturned y n m ks ls)
+        → IsUpTo l m
         → KeepsOrder hs (record { place = a.place; value = x })
         → index hs a.place < index hs b.place }
 {}
@@ -117,6 +118,18 @@ pub fn length_is_true<T: Drop>()
 {
     mb_segment::laws::knowledge_is_true::<T>();
 }
+
+/// Of the moment at which an end is told fates, or that none are kept: it gives the channel's list back, out of which they
+/// were taken. They are those in a segment that is freed. A fate names any end whose log has its value, and there is one.
+pub fn fates_are_true<T: Drop>()
+    ensures list { (c : ListState T) (k : Keeps c) (id r : ℕ) (told : Option (Fates T))
+        (s : Step (Homes T)) (v w : Sat T)
+        → get_elem? c.views id ≡ some v.0 → gives_fates told s v r w → HasTaken k.homes told v.1 }
+    ensures names { (c : ListState T) (k : Keeps c) (f : Fates T) (at : ℕ) (x : Fate)
+        → IsFateOf k.homes f → is_fate f at ≡ Some x → IsTrue c.views f.segment at x }
+    ensures owners { (c : ListState T) (k : Keeps c) (f : Fates T) (at : ℕ) (x : Fate)
+        → IsFateOf k.homes f → is_fate f at ≡ Some x → IsOwned c.views f.segment at x }
+{}
 
 /// Of the moment at which a pass counts that it found nothing, in the segment where a receiver is: nothing waits in any
 /// segment of the channel.

@@ -12,6 +12,8 @@
 //! - [`Sender::known`] and [`Receiver::known`] say how far an end knows. [`Sender::learn`] and [`Receiver::learn`] tell
 //!   that to another end. If they answer `true`, its later calls stand behind that [`Place`].
 //! - [`Receiver::give_back`] gives a value back to the end of the one order.
+//! - [`audited`] gives a channel whose ends have names. [`Sender::try_fates`] tells who sent each value, and who received
+//!   it.
 //! - [`Receiver::give_sender`] and [`Receiver::give_receiver`] take an end back. [`Receiver::end`] ends the channel by
 //!   its last one.
 //!
@@ -20,6 +22,7 @@
 
 mod answers;
 mod attempt;
+mod auditing;
 mod begun;
 mod busy;
 mod channel;
@@ -65,15 +68,16 @@ mod visits;
 pub mod work_samples;
 
 pub use answers::{Came, Retired};
+pub use auditing::Audited;
 pub use channel::Refused;
 pub use claiming::{Claimed, Claiming};
 pub use departing::{Cutter, Departing};
 pub use drawing::{Drawing, Drawn};
 pub use end::{Receiver, Sender};
 pub use held::{Held, Stored};
-pub use home::{Home, Homes, Shared};
+pub use home::{Audit, Fates, Home, Homes, Shared};
 pub use kept::KeptSender;
-pub use making::unbounded;
+pub use making::{audited, unbounded};
 pub use place::Place;
 pub use polls::{Asleep, Leaving, Polled};
 pub use posting::Posted;

@@ -7,7 +7,9 @@ ghost use Rattle.mb_channel.specs.declared.home.Home.{Home};
 ghost use Rattle.mb_channel.specs.declared.home.Homes.{Homes};
 
 use crate::home::Homes;
-use crate::rule::{Change, Counts, Ends, GetsNumber, GivesLock, ListRule, Side, Splits, TakesLock};
+use crate::rule::{
+    Change, Counts, Ends, GetsNumber, GivesLock, ListRule, Name, Side, Splits, TakesLock,
+};
 use crate::view::Knows;
 use atomic_table::{Seat, Table};
 use std::alloc::{AllocError, Global};
@@ -28,16 +30,19 @@ pub struct List<T: Drop> {
 }
 
 impl<T: Drop> List<T> {
-    /// A chair that knows nothing gets its number.
-    fn number(&self, chair: &mut Chair<T>)
+    /// A chair that knows nothing gets its number and its name.
+    fn number<N: Name>(&self, chair: &mut Chair<T>, name: u32)
+        requires picked { N.name ≡ name }
         requires list { chair.old.table_id ≡ self.now.table.shared.table_id }
         requires unborn { ((view_in chair.old).live ≡ false) × (0 < (view_in chair.old).rights) }
         ensures list { (chair.new.table_id ≡ chair.old.table_id) × (chair.new.id ≡ chair.old.id) }
         ensures number { (id : ℕ)
             × (chair.new.me.1 ≡ chair.old.me.1)
-            × (view_in chair.new ≡ record (view_in chair.old) { live = true; number = id }) }
+            × (view_in chair.new
+            ≡ record (view_in chair.old) { live = true; number = id; name = name }) }
     {
-        self.table.shared.load::<GetsNumber>(chair, 0);
+        let _ = name;
+        self.table.shared.load::<GetsNumber<N>>(chair, 0);
     }
 
     /// Takes the lock, if it is free.
@@ -94,20 +99,20 @@ impl<T: Drop> List<T> {
         homes.append(self.alloc, size_at(at))
     }
 
-    /// A list with no segment, and its first chair, which counts for a sender and a receiver. The error is [`AllocError`]
-    /// if the allocator refuses the memory.
-    pub fn new(alloc: Global) -> Result<(List<T>, Chair<T>), AllocError>
+    /// A list with no segment, and its first chair, of this name, which counts for a sender and a receiver. The error is
+    /// [`AllocError`] if the allocator refuses the memory.
+    pub fn new(alloc: Global, name: u32, audited: bool) -> Result<(List<T>, Chair<T>), AllocError>
         ensures list { IfOk result (λ r. r.1.table_id ≡ r.0.table.shared.table_id) }
         ensures first { IfOk result (λ r. IsReady r.1.me × IsFirst (view_in r.1)
             × ((view_in r.1).at ≡ 0) × ((view_in r.1).takes ≡ true)
-            × ((view_in r.1).orderly ≡ true)
+            × ((view_in r.1).orderly ≡ true) × ((view_in r.1).name ≡ name)
             × ((view_in r.1).sends ≡ 1) × ((view_in r.1).receives ≡ 1)) }
     {
-        let homes = no_homes(alloc)?;
+        let homes = no_homes(alloc, audited)?;
         match Table::new(alloc, &[0, 1, 1, 1, 1], homes, &()) {
             Ok((table, mut chair)) => {
                 let list = List { table, alloc };
-                list.number(&mut chair);
+                list.number::<Brand>(&mut chair, name);
                 Ok((list, chair))
             }
             Err(refused) => {
@@ -132,9 +137,9 @@ impl<T: Drop> List<T> {
             .compare_exchange::<Counts>(chair, 1, seen, new)
     }
 
-    /// A chair for another end, which begins where this one is. It counts for a sender or a receiver, for which this one
-    /// counts no more.
-    pub fn another<S: Side>(&self, chair: &mut Chair<T>) -> Chair<T>
+    /// A chair for another end, of this name, which begins where this one is. It counts for a sender or a receiver, for
+    /// which this one counts no more.
+    pub fn another<S: Side>(&self, chair: &mut Chair<T>, name: u32) -> Chair<T>
         requires list { chair.old.table_id ≡ self.now.table.shared.table_id }
         requires ready { IsReady chair.old.me }
         requires counts { (1 < (view_in chair.old).rights) × (S.sends ≤ (view_in chair.old).sends)
@@ -144,7 +149,7 @@ impl<T: Drop> List<T> {
         ensures left { (view_in chair.new ≡ splits_off S.sends S.receives (view_in chair.old))
             × (chair.new.me.1 ≡ []) }
         ensures new { IsReady result.me × IsFirst (view_in result)
-            × ((view_in result).at ≡ (view_in chair.old).at)
+            × ((view_in result).at ≡ (view_in chair.old).at) × ((view_in result).name ≡ name)
             × ((view_in result).takes ≡ (view_in chair.old).takes)
             × ((view_in result).orderly ≡ (view_in chair.old).orderly)
             × ((view_in result).sends ≡ S.sends) × ((view_in result).receives ≡ S.receives)
@@ -153,7 +158,7 @@ impl<T: Drop> List<T> {
             × ((view_in result).last ≡ (view_in chair.old).last) }
     {
         let mut new = self.table.shared.split_seat::<Splits<S>>(chair);
-        self.number(&mut new);
+        self.number::<Brand>(&mut new, name);
         new
     }
 
@@ -199,11 +204,11 @@ fn size_at(at: usize) -> u32 {
     if at == 0 { 64 } else { 1024 }
 }
 
-fn no_homes<T: Drop>(alloc: Global) -> Result<Vec<Homes<T>>, AllocError>
+fn no_homes<T: Drop>(alloc: Global, audited: bool) -> Result<Vec<Homes<T>>, AllocError>
     ensures { IfOk result (λ v. (l : Homes T) × (v.items ≡ l ∷ []) × (l.list.items ≡ [])
-        × (l.first ≡ 0)) }
+        × (l.first ≡ 0) × (l.audit.kept.items ≡ [])) }
 {
     let mut homes = Vec::new(alloc);
-    homes.push(Homes::none(alloc))?;
+    homes.push(Homes::none(alloc, audited))?;
     Ok(homes)
 }

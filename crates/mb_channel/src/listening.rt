@@ -32,12 +32,13 @@ impl<T: Drop> End<T> {
             chair,
             at,
             rights,
+            name,
             inside,
             over: _,
             behind: _,
         } = self;
         let Some(inside) = inside else { unreachable!() };
-        let (busy, heard) = inside.poll();
+        let (busy, heard) = inside.poll(name);
         let over = matches!(&heard, Heard::Over);
         Ok((
             Debtor {
@@ -45,6 +46,7 @@ impl<T: Drop> End<T> {
                 chair,
                 at,
                 rights,
+                name,
                 busy,
                 over,
             },
@@ -63,7 +65,8 @@ impl<T: Drop> Debtor<T> {
         ensures wakes { Tells 0 (wakes_with self) (wakes_with result.0) }
     {
         let mut debtor = self;
-        let heard = debtor.busy.wake_up();
+        let name = debtor.name;
+        let heard = debtor.busy.wake_up(name);
         debtor.over = debtor.over || matches!(&heard, Heard::Over);
         (debtor, heard)
     }

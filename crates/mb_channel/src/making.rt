@@ -16,10 +16,11 @@ use crate::rule::{AsReceiver, AsSender, Side};
 use std::alloc::{AllocError, Global};
 use std::sync::Arc;
 
-/// An end that is in no segment, behind the last one or not.
+/// An end of this name that is in no segment, behind the last one or not.
 pub(crate) fn end_at<T: Drop>(
     list: SharedList<T>,
     chair: Chair<T>,
+    name: u32,
     at: usize,
     behind: bool,
 ) -> End<T>
@@ -27,6 +28,7 @@ pub(crate) fn end_at<T: Drop>(
     requires ready { IsReady chair.me }
     requires first { IsFirst (view_in chair) }
     requires here { (view_in chair).at ≡ at }
+    requires name { ((view_in chair).name ≡ name) × (name < 4294967295) }
     requires orderly { (view_in chair).orderly ≡ true }
     requires ended { behind ≡ true → KnowsEnd (view_in chair) }
     ensures behind { result.behind ≡ behind }
@@ -38,6 +40,7 @@ pub(crate) fn end_at<T: Drop>(
         chair,
         at,
         rights: 1,
+        name,
         inside: None,
         over: false,
         behind,
@@ -93,15 +96,18 @@ impl<T: Drop> End<T> {
         None
     }
 
-    /// Another end, which begins where this one is. It counts for a sender or a receiver in this one's place.
-    pub(crate) fn split<S: Side>(&mut self, list: SharedList<T>) -> End<T>
+    /// Another end, of this name, which begins where this one is. It counts for a sender or a receiver in this one's
+    /// place.
+    pub(crate) fn split<S: Side>(&mut self, list: SharedList<T>, name: u32) -> End<T>
         requires list { self.old.chair.table_id ≡ (arc_value list).table.shared.table_id }
+        requires name { name < 4294967295 }
         requires counts { 1 < (view_of self.old).rights }
         requires sends { S.sends ≤ (view_of self.old).sends }
         requires receives { S.receives ≤ (view_of self.old).receives }
         ensures old { AreOfOneChannel self.old self.new
             × ((view_of self.new).takes ≡ (view_of self.old).takes)
             × ((view_of self.new).number ≡ (view_of self.old).number)
+            × ((view_of self.new).name ≡ (view_of self.old).name)
             × ((view_of self.new).ended ≡ (view_of self.old).ended)
             × StaysTold (view_of self.old) (view_of self.new) }
         ensures later { IsLater (stand_of self.old) (stand_of self.new) }
@@ -114,13 +120,14 @@ impl<T: Drop> End<T> {
             × ((view_of result).receives ≡ S.receives) }
         ensures new { AreOfOneChannel self.old result × IsFresh result
             × ((view_of result).takes ≡ (view_of self.old).takes) }
+        ensures name { (view_of result).name ≡ name }
     {
         let at = self.at;
-        let chair = self.list.another::<S>(&mut self.chair);
+        let chair = self.list.another::<S>(&mut self.chair, name);
         if self.rights < u64::MAX {
             self.rights -= 1;
         }
-        end_at(list, chair, at, self.behind)
+        end_at(list, chair, name, at, self.behind)
     }
 
     /// Counts for one sender more. [`Refused::Closed`] is told if no sender is left, which the end then knows.
@@ -152,16 +159,18 @@ impl<T: Drop> End<T> {
         Err(Refused::Crowded)
     }
 
-    /// A new sender, which begins where this end is. It is refused if so many ends were made that they cannot be counted,
-    /// or, by [`Refused::Closed`], if no sender is left, which the end then knows.
-    pub(crate) fn new_sender(&mut self) -> Result<Sender<T>, Refused>
+    /// A new sender, of this name, which begins where this end is. It is refused if so many ends were made that they
+    /// cannot be counted, or, by [`Refused::Closed`], if no sender is left, which the end then knows.
+    pub(crate) fn new_sender(&mut self, name: u32) -> Result<Sender<T>, Refused>
+        requires name { name < 4294967295 }
         ensures end { IsSame self.old self.new }
         ensures takes { (view_of self.new).takes ≡ (view_of self.old).takes }
         ensures sent { sent_by self.new ≡ sent_by self.old }
         ensures got { got_by self.new ≡ got_by self.old }
         ensures behind { IsBehind self.old
             → IsBehind self.new × IfOk result (λ s. IsBehind s.end) }
-        ensures new { IfOk result (λ s. AreOfOneChannel self.old s.end × IsFresh s.end) }
+        ensures new { IfOk result (λ s. AreOfOneChannel self.old s.end × IsFresh s.end
+            × ((view_of s.end).name ≡ name)) }
         ensures none { IfErr result (λ why. IfClosed why ((view_of self.new).alone ≡ true)) }
         ensures memory { IfErr result (λ why. why ≢ NoMemory) }
     {
@@ -169,7 +178,7 @@ impl<T: Drop> End<T> {
             return Err(Refused::Crowded);
         };
         self.hire_sender()?;
-        let end = self.split::<AsSender>(list);
+        let end = self.split::<AsSender>(list, name);
         Ok(Sender { end })
     }
 
@@ -196,12 +205,48 @@ impl<T: Drop> End<T> {
     }
 }
 
-/// A channel: its first sender and its first receiver. The error is [`AllocError`] if the allocator refuses the memory.
+/// A channel whose ends have no names: its first sender and its first receiver. The error is [`AllocError`] if the
+/// allocator refuses the memory.
 pub fn unbounded<T: Drop>(alloc: Global) -> Result<(Sender<T>, Receiver<T>), AllocError>
     ensures channel { IfOk result (λ r. AreOfOneChannel r.0.end r.1.end) }
     ensures fresh { IfOk result (λ r. IsFresh r.0.end × IsFresh r.1.end) }
+    ensures names { IfOk result
+        (λ r. ((view_of r.0.end).name ≡ 0) × ((view_of r.1.end).name ≡ 0)) }
 {
-    let (list, chair) = List::new(alloc)?;
+    make(alloc, 0, 0, false)
+}
+
+/// A channel that keeps the fates of its values until an end takes them, by [`Sender::try_fates`]. Its first sender and
+/// its first receiver have these names. An end that has 0 has no name, and neither do its fates.
+pub fn audited<T: Drop>(
+    alloc: Global,
+    sender: u32,
+    receiver: u32,
+) -> Result<(Sender<T>, Receiver<T>), AllocError>
+    requires sender { sender < 4294967295 }
+    requires receiver { receiver < 4294967295 }
+    ensures channel { IfOk result (λ r. AreOfOneChannel r.0.end r.1.end) }
+    ensures fresh { IfOk result (λ r. IsFresh r.0.end × IsFresh r.1.end) }
+    ensures names { IfOk result
+        (λ r. ((view_of r.0.end).name ≡ sender) × ((view_of r.1.end).name ≡ receiver)) }
+{
+    make(alloc, sender, receiver, true)
+}
+
+fn make<T: Drop>(
+    alloc: Global,
+    sender: u32,
+    receiver: u32,
+    audited: bool,
+) -> Result<(Sender<T>, Receiver<T>), AllocError>
+    requires sender { sender < 4294967295 }
+    requires receiver { receiver < 4294967295 }
+    ensures channel { IfOk result (λ r. AreOfOneChannel r.0.end r.1.end) }
+    ensures fresh { IfOk result (λ r. IsFresh r.0.end × IsFresh r.1.end) }
+    ensures names { IfOk result
+        (λ r. ((view_of r.0.end).name ≡ sender) × ((view_of r.1.end).name ≡ receiver)) }
+{
+    let (list, chair) = List::new(alloc, receiver, audited)?;
     let list = match Arc::new(alloc, list) {
         Ok(list) => list,
         Err(refused) => {
@@ -210,17 +255,17 @@ pub fn unbounded<T: Drop>(alloc: Global) -> Result<(Sender<T>, Receiver<T>), All
         }
     };
     let share = Arc::try_clone(&list)?;
-    let mut end = end_at(list, chair, 0, false);
+    let mut end = end_at(list, chair, receiver, 0, false);
     // No other end is there, so the ends count for one.
     if end.count(1) != 1 {
         return Err(AllocError);
     }
-    let sending = end.split::<AsSender>(share);
+    let sending = end.split::<AsSender>(share, sender);
     Ok((Sender { end: sending }, Receiver { end }))
 }
 
 impl<T: Drop> Sender<T> {
-    /// Another sender. It is `None` if so many ends were made that they cannot be counted.
+    /// Another sender, of the same name. It is `None` if so many ends were made that they cannot be counted.
     pub fn another(&mut self) -> Option<Sender<T>>
         ensures channel { AreOfOneChannel self.old.end self.new.end }
         ensures logs { log_of self.new.end ≡ log_of self.old.end }
@@ -229,14 +274,32 @@ impl<T: Drop> Sender<T> {
         ensures behind { IsBehind self.old.end
             → IsBehind self.new.end × IfSome result (λ s. IsBehind s.end) }
         ensures given { given_to self.new.end ≡ given_to self.old.end }
-        ensures new { IfSome result (λ s. AreOfOneChannel self.old.end s.end × IsFresh s.end) }
+        ensures new { IfSome result (λ s. AreOfOneChannel self.old.end s.end × IsFresh s.end
+            × ((view_of s.end).name ≡ (view_of self.old.end).name)) }
     {
-        self.end.new_sender().ok()
+        let name = self.end.name;
+        self.another_named(name)
+    }
+
+    /// The same, of another name.
+    pub fn another_named(&mut self, name: u32) -> Option<Sender<T>>
+        requires name { name < 4294967295 }
+        ensures channel { AreOfOneChannel self.old.end self.new.end }
+        ensures logs { log_of self.new.end ≡ log_of self.old.end }
+        ensures told { StaysTold (view_of self.old.end) (view_of self.new.end) }
+        ensures later { IsLater (stand_of self.old.end) (stand_of self.new.end) }
+        ensures behind { IsBehind self.old.end
+            → IsBehind self.new.end × IfSome result (λ s. IsBehind s.end) }
+        ensures given { given_to self.new.end ≡ given_to self.old.end }
+        ensures new { IfSome result (λ s. AreOfOneChannel self.old.end s.end × IsFresh s.end
+            × ((view_of s.end).name ≡ name)) }
+    {
+        self.end.new_sender(name).ok()
     }
 }
 
 impl<T: Drop> Receiver<T> {
-    /// Another receiver, which begins in the same segment.
+    /// Another receiver, of the same name, which begins in the same segment.
     pub fn another(&mut self) -> Option<Receiver<T>>
         ensures channel { AreOfOneChannel self.old.end self.new.end }
         ensures logs { log_of self.new.end ≡ log_of self.old.end }
@@ -245,13 +308,31 @@ impl<T: Drop> Receiver<T> {
         ensures behind { IsBehind self.old.end
             → IsBehind self.new.end × IfSome result (λ r. IsBehind r.end) }
         ensures given { given_to self.new.end ≡ given_to self.old.end }
-        ensures new { IfSome result (λ r. AreOfOneChannel self.old.end r.end × IsFresh r.end) }
+        ensures new { IfSome result (λ r. AreOfOneChannel self.old.end r.end × IsFresh r.end
+            × ((view_of r.end).name ≡ (view_of self.old.end).name)) }
+    {
+        let name = self.end.name;
+        self.another_named(name)
+    }
+
+    /// The same, of another name.
+    pub fn another_named(&mut self, name: u32) -> Option<Receiver<T>>
+        requires name { name < 4294967295 }
+        ensures channel { AreOfOneChannel self.old.end self.new.end }
+        ensures logs { log_of self.new.end ≡ log_of self.old.end }
+        ensures told { StaysTold (view_of self.old.end) (view_of self.new.end) }
+        ensures later { IsLater (stand_of self.old.end) (stand_of self.new.end) }
+        ensures behind { IsBehind self.old.end
+            → IsBehind self.new.end × IfSome result (λ r. IsBehind r.end) }
+        ensures given { given_to self.new.end ≡ given_to self.old.end }
+        ensures new { IfSome result (λ r. AreOfOneChannel self.old.end r.end × IsFresh r.end
+            × ((view_of r.end).name ≡ name)) }
     {
         let list = self.end.count_one()?;
         if !self.end.hire_receiver() {
             return None;
         }
-        let end = self.end.split::<AsReceiver>(list);
+        let end = self.end.split::<AsReceiver>(list, name);
         Some(Receiver { end })
     }
 }

@@ -1,12 +1,14 @@
 //! Passes of the segments in the list: the hubs issue them and take them back.
-ghost use Rattle.std.specs.Prelude.{◌≡◌, ◌<◌, ◌≤◌, ◌-◌, length, true, IfOk, IfErr, IfSome, OnErr, IfNone, ◌++◌, ◌∷◌, [], List};
+ghost use Rattle.std.specs.Prelude.{suc, ◌≡◌, ◌<◌, ◌≤◌, ◌+◌, ◌-◌, length, true, IfOk, IfErr, IfSome, OnErr, IfNone, ◌++◌, ◌∷◌, [], List};
 ghost use Rattle.mb_segment.specs.Seats.{view_in as pass_view};
-ghost use Rattle.mb_segment.specs.Vocabulary.{HasLeft, IsFree, IsWhole as SegmentIsWhole, blank};
-ghost use Rattle.mb_channel.specs.Homes.{At, Changes, HasIssued, HasTakenBack, IsDone, IsFreed, IsNew, Stands, came_back, out_of};
+ghost use Rattle.mb_segment.specs.Vocabulary.{HasLeft, IsFree, IsWhole as SegmentIsWhole, named};
+ghost use Rattle.mb_channel.specs.Homes.{At, Changes, HasIssued, HasTakenBack, IsDone, IsFreed, IsNew, KeepsFates, Stands, came_back, out_of};
+ghost use Rattle.mb_channel.specs.Fates.{HasRoom, IsFateOf, IsSameAudit, LosesNone, told_of};
+ghost use Rattle.mb_channel.specs.Visits.{TellsFates};
 ghost use Rattle.mb_channel.specs.Tallies.{GoesOnTo};
 ghost use Rattle.mb_channel.specs.declared.home.Home.{Home};
 
-use crate::home::{Home, Homes, Shared};
+use crate::home::{Audit, Fates, Home, Homes, Shared};
 use mb_segment::{Left, Pass, Segment};
 use std::alloc::{AllocError, Global};
 use std::collections::VecDeque;
@@ -47,16 +49,17 @@ impl<T: Drop> Home<T> {
         self.done
     }
 
-    /// Issues a pass of the segment. It is `None` if so many are out that they cannot be counted.
-    fn issue(&mut self) -> Option<(Shared<T>, Pass<T>)>
+    /// Issues a pass of the segment, of this name. It is `None` if so many are out that they cannot be counted.
+    fn issue(&mut self, name: u32) -> Option<(Shared<T>, Pass<T>)>
+        requires name { name < 4294967295 }
         ensures home { IfSome result (λ r. HasIssued self.old self.new r.0 r.1) }
-        ensures pass { IfSome result (λ r. (pass_view r.1 ≡ blank) × IsFree r.1) }
+        ensures pass { IfSome result (λ r. (pass_view r.1 ≡ named name) × IsFree r.1) }
         ensures none { IfNone result (self.new ≡ self.old) }
     {
         let out = self.out.checked_add(1)?;
         let segment = Arc::try_clone(&self.segment).ok()?;
         self.out = out;
-        Some((segment, self.segment.issue(&mut self.hub)))
+        Some((segment, self.segment.issue(&mut self.hub, name)))
     }
 
     /// Ends the segment, of which no pass is out, and gives out what is left there. It comes back if an end still has a
@@ -65,6 +68,7 @@ impl<T: Drop> Home<T> {
         requires back { out_of self ≡ 0 }
         ensures whole { IfOk result (λ l. (left : List T) × SegmentIsWhole (came_back self) left
             × HasLeft l left × (IsDone self → left ≡ [])) }
+        ensures fates { IfOk result (λ l. TellsFates l (came_back self)) }
         ensures shared { IfErr result (λ h. h ≡ self) }
     {
         let Home {
@@ -84,10 +88,9 @@ impl<T: Drop> Home<T> {
         }
     }
 
-    /// Frees a segment that is done and has no pass out. Any other comes back, and so does one of which an end has a
-    /// share.
-    fn free(self) -> Result<(), Home<T>>
-        ensures freed { IfOk result (λ _. IsFreed self) }
+    /// Ends a segment that is done and has no pass out. Any other comes back, and so does one of which an end has a share.
+    fn free(self) -> Result<Left<T>, Home<T>>
+        ensures freed { IfOk result (λ l. IsFreed self × TellsFates l (came_back self)) }
         ensures kept { IfErr result (λ h. h ≡ self) }
     {
         if !self.done {
@@ -96,24 +99,45 @@ impl<T: Drop> Home<T> {
         if self.out != 0 {
             return Err(self);
         }
-        match self.end() {
-            Ok(left) => {
-                drop(left);
-                Ok(())
-            }
-            Err(home) => Err(home),
+        self.end()
+    }
+}
+
+impl<T: Drop> Audit<T> {
+    /// Makes room for the fates in one segment more, if they are to be kept.
+    fn make_room(&mut self) -> bool
+        ensures room { result ≡ true → HasRoom self.new }
+        ensures same { IsSameAudit self.old self.new }
+    {
+        !self.is_on || self.kept.reserve(1).is_ok()
+    }
+
+    /// Keeps the fates in this segment, which is freed, if the channel is audited.
+    fn keep(&mut self, left: Left<T>)
+        requires room { HasRoom self.old }
+        ensures kept { (gone : List (Home T)) (h : Home T) → KeepsFates gone self.old
+            → TellsFates left (came_back h) → KeepsFates (gone ++ h ∷ []) self.new }
+        ensures on { (self.new.is_on ≡ self.old.is_on) × (self.old.is_on ≡ true
+            → length self.new.kept.items ≡ length self.old.kept.items + 1) }
+    {
+        if self.is_on {
+            self.kept.push_back_reserved(left);
         }
     }
 }
 
 impl<T: Drop> Homes<T> {
-    /// No segment.
-    pub(crate) fn none(alloc: Global) -> Homes<T>
-        ensures { (result.list.items ≡ []) × (result.first ≡ 0) }
+    /// No segment, in a channel that is audited or not.
+    pub(crate) fn none(alloc: Global, audited: bool) -> Homes<T>
+        ensures { (result.list.items ≡ []) × (result.first ≡ 0) × (result.audit.kept.items ≡ []) }
     {
         Homes {
             first: 0,
             list: VecDeque::new(alloc),
+            audit: Audit {
+                is_on: audited,
+                kept: VecDeque::new(alloc),
+            },
         }
     }
 
@@ -127,7 +151,7 @@ impl<T: Drop> Homes<T> {
         requires over { over ≡ (pass_view pass).over }
         ensures list { Changes self.old.list.items self.new.list.items (at - self.old.first)
             (λ h g. HasTakenBack h g (pass_view pass) × (result ≡ g.done)) }
-        ensures first { self.new.first ≡ self.old.first }
+        ensures first { (self.new.first ≡ self.old.first) × (self.new.audit ≡ self.old.audit) }
     {
         self.list[at - self.first].take_back(pass, over)
     }
@@ -143,15 +167,16 @@ impl<T: Drop> Homes<T> {
         self.first.checked_add(self.list.len().saturating_sub(1))
     }
 
-    /// The segment at this place of the list issues a pass.
-    pub(crate) fn issue(&mut self, at: usize) -> Option<(Shared<T>, Pass<T>)>
+    /// The segment at this place of the list issues a pass of this name.
+    pub(crate) fn issue(&mut self, at: usize, name: u32) -> Option<(Shared<T>, Pass<T>)>
+        requires name { name < 4294967295 }
         requires there { at < length self.old.list.items }
         ensures some { IfSome result (λ r. Changes self.old.list.items self.new.list.items at
-            (λ h g. HasIssued h g r.0 r.1) × (pass_view r.1 ≡ blank) × IsFree r.1) }
+            (λ h g. HasIssued h g r.0 r.1) × (pass_view r.1 ≡ named name) × IsFree r.1) }
         ensures none { IfNone result (self.new.list.items ≡ self.old.list.items) }
-        ensures first { self.new.first ≡ self.old.first }
+        ensures first { (self.new.first ≡ self.old.first) × (self.new.audit ≡ self.old.audit) }
     {
-        self.list[at].issue()
+        self.list[at].issue(name)
     }
 
     /// One more segment, of this many positions, behind the others.
@@ -159,7 +184,7 @@ impl<T: Drop> Homes<T> {
         ensures more { IfOk result (λ _. (h : Home T) × IsNew h
             × (self.new.list.items ≡ self.old.list.items ++ h ∷ [])) }
         ensures same { OnErr result (self.new.list.items ≡ self.old.list.items) }
-        ensures first { self.new.first ≡ self.old.first }
+        ensures first { (self.new.first ≡ self.old.first) × (self.new.audit ≡ self.old.audit) }
     {
         self.list.reserve(1)?;
         let home = Home::new(alloc, size)?;
@@ -167,20 +192,23 @@ impl<T: Drop> Homes<T> {
         Ok(())
     }
 
-    /// Frees the oldest segment, if it is done and nobody has a pass or a share of it.
+    /// Frees the oldest segment, if it is done and nobody has a pass or a share of it. If the channel is audited, its
+    /// fates are kept, and it stays if the allocator refuses the memory for them.
     fn free_first(&mut self) -> bool
         ensures stands { (hs : List (Home T)) → Stands hs self.old → Stands hs self.new }
         ensures fewer { result ≡ true → length self.new.list.items < length self.old.list.items }
+        ensures kept { LosesNone self.old self.new }
     {
-        if self.first >= usize::MAX {
+        if self.first >= usize::MAX || !self.audit.make_room() {
             return false;
         }
         let Some(home) = self.list.pop_front() else {
             return false;
         };
         match home.free() {
-            Ok(()) => {
+            Ok(left) => {
                 self.first += 1;
+                self.audit.keep(left);
                 true
             }
             Err(home) => {
@@ -192,8 +220,23 @@ impl<T: Drop> Homes<T> {
 
     /// Frees the oldest segments, while they are done and nobody has a pass or a share of them.
     pub(crate) fn sweep(&mut self)
-        ensures { (hs : List (Home T)) → Stands hs self.old → Stands hs self.new }
+        ensures stands { (hs : List (Home T)) → Stands hs self.old → Stands hs self.new }
+        ensures kept { LosesNone self.old self.new }
     {
         while self.free_first() {}
+    }
+
+    /// Takes out the fates in the oldest segment that was freed and is not told.
+    pub(crate) fn take_fates(&mut self) -> Option<Fates<T>>
+        ensures some { IfSome result (λ f. (hs : List (Home T)) → Stands hs self.old
+            → Stands hs self.new × IsFateOf hs f × (told_of self.new ≡ suc f.segment)) }
+        ensures none { IfNone result ((self.new.audit.kept.items ≡ [])
+            × ((hs : List (Home T)) → Stands hs self.old → Stands hs self.new)) }
+    {
+        let segment = self.first.saturating_sub(self.audit.kept.len());
+        let Some(left) = self.audit.kept.pop_front() else {
+            return None;
+        };
+        Some(Fates { segment, left })
     }
 }

@@ -23,7 +23,8 @@ pub enum Posted<T> {
 impl<T: Drop> Busy<T> {
     /// Tries to send a value here.
     #[inline(always)]
-    pub(crate) fn send_here(&mut self, value: T) -> Posted<T>
+    pub(crate) fn send_here(&mut self, value: T, name: u32) -> Posted<T>
+        requires named { self.old.pass.seat.me.0.account.name ≡ name }
         requires nothing { self.old.debt ≡ owed.Nothing }
         ensures answer { HasPosted result value (work_of self.old) self.new }
         ensures wakes { Tells 0 (wakes_by self.old) (wakes_by self.new) }
@@ -34,7 +35,7 @@ impl<T: Drop> Busy<T> {
             Draw::Full => return Posted::Back(value),
             Draw::Closed => return Posted::Back(value),
         };
-        self.segment.mark(&mut self.pass, at, value);
+        self.segment.mark(&mut self.pass, at, value, name);
         if at + 1 == self.segment.size() {
             self.debt = Debt::Tokens;
             return Posted::Owes;

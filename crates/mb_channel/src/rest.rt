@@ -28,7 +28,12 @@ impl<T: Drop> Ending<T> {
     pub fn new(homes: Homes<T>, alloc: Global) -> Ending<T>
         ensures { (hs : List (Home T)) → Stands hs homes → IsEnding hs result }
     {
-        let Homes { first: _, list } = homes;
+        let Homes {
+            first: _,
+            list,
+            audit,
+        } = homes;
+        drop(audit);
         Ending {
             lefts: VecDeque::new(alloc),
             list,

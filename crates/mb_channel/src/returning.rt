@@ -1,5 +1,5 @@
 //! A receiver gives a value back to the channel, by a sender that it makes for that.
-ghost use Rattle.std.specs.Prelude.{◌≡◌, ◌⊎◌, false, true, IfErr, IsErrAnd, OnOk};
+ghost use Rattle.std.specs.Prelude.{◌≡◌, ◌⊎◌, false, true, IfErr, IfOk, IsErrAnd, OnOk};
 ghost use Rattle.mb_channel.specs.declared.channel.Refused.TheVariants.{Closed};
 ghost use Rattle.mb_channel.specs.Answers.{IfClosed, IfUnmade};
 ghost use Rattle.mb_channel.specs.Deeds.{IsUpTo, OneMore};
@@ -23,15 +23,29 @@ impl<T: Drop> End<T> {
         ensures closed { IfErr result (λ why. IfClosed why (IsBehind self.new)) }
     {
         for _ in rt.forever() {
-            if self.learn(place, false) {
+            if self.learn_once(place)? {
                 return Ok(());
-            }
-            if self.inside.is_none() {
-                self.go_on(false, false)?;
             }
             yield_now();
         }
         unreachable!()
+    }
+
+    /// Tries to do so. If it does not know as much, and is in no segment, it goes on.
+    fn learn_once(&mut self, place: Place) -> Result<bool, Refused>
+        ensures still { NoMore (stand_of self.old) (stand_of self.new) }
+        ensures learned { IfOk result (λ done. done ≡ true
+            → IsUpTo place (knows false (stand_of self.new))) }
+        ensures closed { IfErr result (λ why. IfClosed why (IsBehind self.new)) }
+    {
+        if self.learn(place, false) {
+            return Ok(true);
+        }
+        if self.inside.is_some() {
+            return Ok(false);
+        }
+        self.go_on(false, false)?;
+        Ok(false)
     }
 }
 
@@ -54,8 +68,8 @@ impl<T: Drop> Sender<T> {
 }
 
 impl<T: Drop> Receiver<T> {
-    /// Gives a value back, as if a new sender had sent it. It stands behind all that this receiver received, and a
-    /// receiver is woken for it. This receiver makes that sender, and takes it back.
+    /// Gives a value back, as if a new sender of the same name had sent it. It stands behind all that this receiver
+    /// received, and a receiver is woken for it. This receiver makes that sender, and takes it back.
     ///
     /// The error gives the value back. [`Refused::Closed`] is told only if the channel is closed or no sender is left. It
     /// is [`Refused::NoMemory`] if the allocator refused the memory for the next segment, and [`Refused::Crowded`] if
@@ -67,10 +81,11 @@ impl<T: Drop> Receiver<T> {
         ensures told { StaysTold (view_of self.old.end) (view_of self.new.end) }
         ensures later { IsLater (stand_of self.old.end) (stand_of self.new.end) }
         ensures behind { IsBehind self.old.end → IsBehind self.new.end }
-        ensures sent { OnOk result (OneReturned value (knows true (stand_of self.old.end))
-            (given_to self.old.end) (given_to self.new.end)) }
+        ensures sent { OnOk result (OneReturned value (view_of self.old.end).name
+            (knows true (stand_of self.old.end)) (given_to self.old.end) (given_to self.new.end)) }
         ensures back { IfErr result (λ e. (e.value ≡ value)
-            × NoneReturned (given_to self.old.end) (given_to self.new.end)) }
+            × NoneReturned (view_of self.old.end).name (given_to self.old.end)
+            (given_to self.new.end)) }
         ensures closed { IfErr result (λ e. IfClosed e.why
             (((view_of self.new.end).alone ≡ true) ⊎ HasEnded self.new.end)) }
         ensures still { IsBehind self.old.end → IsErrAnd result (λ e. e.why ≡ Closed) }
@@ -82,7 +97,8 @@ impl<T: Drop> Receiver<T> {
             return Err(NotSent { value, why });
         }
         let place = self.known();
-        let mut sender = match self.end.new_sender() {
+        let name = self.end.name;
+        let mut sender = match self.end.new_sender(name) {
             Ok(sender) => sender,
             Err(why) => return Err(NotSent { value, why }),
         };

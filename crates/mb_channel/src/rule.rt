@@ -83,12 +83,52 @@ impl<T: Drop, N: Length> Play<Homes<T>, Knows<T>> for GivesLength<N> {
     ghost then = { gives_length N.told };
 }
 
-pub struct GetsNumber;
+/// The fates that are told, if any are. A proof picks them.
+pub trait Taken<T> {
+    ghost use Rattle.std.specs.Prelude.{Option};
+    ghost use Rattle.mb_channel.specs.declared.home.Fates.{Fates};
 
-impl<T: Drop> Play<Homes<T>, Knows<T>> for GetsNumber {
+    ghost told: { Option (Fates T) };
+}
+
+// Without a pick there are none.
+impl<T> Taken<T> for Brand {
+    ghost use Rattle.std.specs.Prelude.{None};
+
+    ghost told = { None };
+}
+
+/// Gives the lock back, and tells fates or that none are kept.
+pub struct GivesFates<F> {
+    of: PhantomData<F>,
+}
+
+impl<T: Drop, F: Taken<T>> Play<Homes<T>, Knows<T>> for GivesFates<F> {
+    ghost use Rattle.mb_channel.specs.Fates.{gives_fates};
+
+    ghost then = { gives_fates F.told };
+}
+
+/// The name of a new end. A proof picks it.
+pub trait Name {
+    ghost use Rattle.std.specs.Prelude.{ℕ};
+
+    ghost name: { ℕ };
+}
+
+// Without a pick it has none.
+impl Name for Brand {
+    ghost name = { 0 };
+}
+
+pub struct GetsNumber<N> {
+    of: PhantomData<N>,
+}
+
+impl<T: Drop, N: Name> Play<Homes<T>, Knows<T>> for GetsNumber<N> {
     ghost use Rattle.mb_channel.specs.Tallies.{gets_number};
 
-    ghost then = { gets_number };
+    ghost then = { gets_number N.name };
 }
 
 pub struct Counts;

@@ -1,5 +1,5 @@
 //! What an end knows. No value of it is made.
-use crate::home::{Home, Shared};
+use crate::home::{Fates, Home, Shared};
 use mb_segment::Account;
 use std::collections::LinkedList;
 
@@ -9,9 +9,10 @@ pub struct Visit<T> {
     pub account: Account<T>,
 }
 
-/// An end that was given back: its number and its visits, the newest first.
+/// An end that was given back: its number, its name and its visits, the newest first.
 pub struct Past<T> {
     pub number: u64,
+    pub name: u64,
     pub visits: LinkedList<Visit<T>>,
 }
 
@@ -23,6 +24,8 @@ pub struct Knows<T: Drop> {
     /// Whether it has a number.
     pub live: bool,
     pub number: u64,
+    /// The name that its maker gave it, or 0.
+    pub name: u64,
     /// Its visits, the newest first.
     pub visits: LinkedList<Visit<T>>,
     /// How many tokens it gave in the segments that it left.
@@ -55,4 +58,6 @@ pub struct Knows<T: Drop> {
     pub found: u64,
     /// The lengths that it was told, the newest first: how many values waited, as far as the hubs knew.
     pub lengths: LinkedList<u64>,
+    /// What it was told of fates, the newest first: those in a segment, or that none are kept.
+    pub fates: LinkedList<Option<Fates<T>>>,
 }

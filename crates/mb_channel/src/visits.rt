@@ -2,7 +2,7 @@
 ghost use Rattle.std.specs.Prelude.{suc, ◌≡◌, ◌<◌, ◌≤◌, ◌⊎◌, [], length, true, false, IfOk, IfErr};
 ghost use Rattle.std.specs.Arc.{arc_value};
 ghost use Rattle.mb_segment.specs.Seats.{view_in as pass_view};
-ghost use Rattle.mb_segment.specs.Vocabulary.{IsFree, blank};
+ghost use Rattle.mb_segment.specs.Vocabulary.{IsFree, named};
 ghost use Rattle.mb_channel.specs.Homes.{At, Changes, HasIssued, HasTakenBack, HoldsHomes, IsPassOf, IsReady};
 ghost use Rattle.mb_channel.specs.Homes.{MayGive, came_to, left_segment, out_of, unlocked, view_in, went_on};
 ghost use Rattle.mb_channel.specs.Tallies.{GoesOnTo, KnowsLast, found_none, told_last};
@@ -61,6 +61,7 @@ impl<T: Drop> List<T> {
         requires free { IsFree pass }
         requires over { over ≡ (pass_view pass).over }
         requires poor { (view_in chair.old).takes ≡ false → (pass_view pass).account.got ≡ [] }
+        requires named { (pass_view pass).account.name ≡ (view_in chair.old).name }
         ensures list { (chair.new.table_id ≡ chair.old.table_id) × (chair.new.id ≡ chair.old.id) }
         ensures left { (chair.new.me.1 ≡ [])
             × (view_in chair.new
@@ -88,6 +89,7 @@ impl<T: Drop> List<T> {
         requires pass { IsPassOf (view_in chair.old).place pass × IsFree pass }
         requires over { over ≡ (pass_view pass).over }
         requires poor { (view_in chair.old).takes ≡ false → (pass_view pass).account.got ≡ [] }
+        requires named { (pass_view pass).account.name ≡ (view_in chair.old).name }
         ensures list { (chair.new.table_id ≡ chair.old.table_id) × (chair.new.id ≡ chair.old.id) }
         ensures left { IfOk result (λ done. (chair.new.me.1 ≡ [])
             × (view_in chair.new
@@ -101,8 +103,10 @@ impl<T: Drop> List<T> {
         Ok(self.part::<Brand>(chair, at, pass, over))
     }
 
-    /// The segment at this place issues a pass, if it is there. Of an end that comes to send alone it has to be the last.
-    fn get_pass(&self, chair: &mut Chair<T>, at: usize, takes: bool) -> Came<T>
+    /// The segment at this place issues a pass of this name, if it is there. Of an end that comes to send alone it has to
+    /// be the last.
+    fn get_pass(&self, chair: &mut Chair<T>, name: u32, at: usize, takes: bool) -> Came<T>
+        requires name { name < 4294967295 }
         requires list { chair.old.table_id ≡ self.now.table.shared.table_id }
         requires homes { HoldsHomes chair.old.me (λ hs. hs ≡ (view_in chair.old).before) }
         ensures list { (chair.new.table_id ≡ chair.old.table_id) × (chair.new.id ≡ chair.old.id) }
@@ -110,7 +114,7 @@ impl<T: Drop> List<T> {
         ensures answer { OfCame result
             (λ s p. HoldsHomes chair.new.me (λ hs.
             Changes (view_in chair.old).before hs at (λ h g. HasIssued h g s p))
-            × (pass_view p ≡ blank) × IsFree p
+            × (pass_view p ≡ named name) × IsFree p
             × (takes ≡ false → suc at ≡ length (view_in chair.old).before))
             (λ k. HoldsHomes chair.new.me (λ hs. hs ≡ (view_in chair.old).before)
             × (at < k) × GoesOnTo takes (view_in chair.old).before k)
@@ -126,7 +130,7 @@ impl<T: Drop> List<T> {
         if at < next {
             Came::Gone(next)
         } else if at - homes.first < homes.list.len() {
-            match homes.issue(at - homes.first) {
+            match homes.issue(at - homes.first, name) {
                 Some((segment, pass)) => Came::Here(segment, pass),
                 None => Came::Crowded,
             }
@@ -232,10 +236,18 @@ impl<T: Drop> List<T> {
         }
     }
 
-    /// Comes to the segment at this place, to receive too or to send alone. If there is none yet, it may add it, but only
-    /// if it saw under the lock that the list is not closed and that a sender is left. An end that comes has left each
-    /// segment before only once nothing could be sent there.
-    pub fn come(&self, chair: &mut Chair<T>, at: usize, takes: bool, adds: bool) -> Came<T>
+    /// Comes to the segment at this place under a name, to receive too or to send alone. If there is none yet, it may add
+    /// it, but only if it saw under the lock that the list is not closed and that a sender is left. An end that comes has
+    /// left each segment before only once nothing could be sent there.
+    pub fn come(
+        &self,
+        chair: &mut Chair<T>,
+        name: u32,
+        at: usize,
+        takes: bool,
+        adds: bool,
+    ) -> Came<T>
+        requires name { name < 4294967295 }
         requires list { chair.old.table_id ≡ self.now.table.shared.table_id }
         requires ready { IsReady chair.old.me }
         requires here { ((view_in chair.old).at ≡ at) × ((view_in chair.old).inside ≡ false) }
@@ -246,7 +258,7 @@ impl<T: Drop> List<T> {
             (λ s p. (chair.new.me.1 ≡ [])
             × (view_in chair.new ≡ came_to s takes (unlocked (view_in chair.old)))
             × (p.seat.table_id ≡ (arc_value s).table.shared.table_id)
-            × (pass_view p ≡ blank) × IsFree p)
+            × (pass_view p ≡ named name) × IsFree p)
             (λ k. (at < k) × (chair.new.me.1 ≡ [])
             × (view_in chair.new ≡ went_on k takes (unlocked (view_in chair.old))))
             ((chair.new.me.1 ≡ []) × (view_in chair.new ≡ found_none (view_in chair.old)))
@@ -256,7 +268,7 @@ impl<T: Drop> List<T> {
         if !self.try_lock(chair) {
             return Came::Locked;
         }
-        match self.get_pass(chair, at, takes) {
+        match self.get_pass(chair, name, at, takes) {
             Came::Here(segment, pass) => {
                 self.enter::<Brand>(chair, &segment, &pass, takes);
                 Came::Here(segment, pass)

@@ -2,7 +2,8 @@
 use Rattle.mb_segment.proofs.Base.{Allows, arith, dec_lt, get_elem?, keeps, length, none, refl, slice_index, some, step, stepped}
 use Rattle.mb_segment.proofs.Base.{true, ℕ, ◌<◌, ◌≡◌, ◌≤◌}
 use Rattle.mb_segment.specs.Vocabulary.{Keeps, Sat, asking, seeing_cut, sees_cut, sees_full}
-use Rattle.mb_segment.proofs.Kept.{Goes, St, at0, at_rest, loaded, settled, sighted, stays}
+use Rattle.mb_segment.proofs.Kept.{Goes, St, at0, at_rest, loaded, settled, stays}
+use Rattle.mb_segment.proofs.Fitting.{sighted}
 
 module _ {T : Type 0} where
   -- a pass that finds the top bit knows that the segment is cut

@@ -48,7 +48,7 @@ module _ {T : Type 0} (s : St T) (k : Keeps s) (n : ℕ) (v w : View T) (at : ge
   there_ = subst (λ (l : List (Entry T)). get_elem? l old ≡ some b) all
       (entry_of (k.history.claims ++ claim ∷ []) bs old claim here)
 
-  marked : (get_elem? k.states old ≡ some 1) × (get_elem? s.homes old ≡ some (some (Some b.value)))
+  marked : (get_elem? k.states old ≡ some (k.names b.by + 1)) × (get_elem? s.homes old ≡ some (some (Some b.value)))
   marked = ⊎_elim (λ z. absurd (ripe z.0)) (λ z. z) (k.waits old b (omega arith) there_)
 
   claim_undrawn : Undrawn claimed k.states lent
@@ -59,7 +59,7 @@ module _ {T : Type 0} (s : St T) (k : Keeps s) (n : ℕ) (v w : View T) (at : ge
       let u = k.undrawn j (omega arith) lt in
       (u.0, set_else s.homes old j none ne ∙ u.1)
 
-  claim_waits : Waiting claimed (slice_set s.views n w) k.states lent
+  claim_waits : Waiting k.names claimed (slice_set s.views n w) k.states lent
   claim_waits j e le e_at =
       let m = more in
       let ne : j ≢ old = λ q. omega arith in
@@ -72,25 +72,25 @@ module _ {T : Type 0} (s : St T) (k : Keeps s) (n : ℕ) (v w : View T) (at : ge
       (λ z. inr (z.0, set_else s.homes old j none ne ∙ z.1))
       (k.waits j e (omega arith) (subst (λ (l : List (Entry T)). get_elem? l j ≡ some e) all e_at))
 
-  claim_taken : Taken claimed (slice_set s.views n w) k.states lent
+  claim_taken : Taken k.names claimed (slice_set s.views n w) k.states lent
   claim_taken j c c_at = ⊎_elim
       (λ (t : get_elem? k.history.claims j ≡ some c).
       let under = below_length k.history.claims j c t in
       let ne : j ≢ old = λ q. omega arith in
-      let y = k.taken_ j c t in (
-        y.0,
-        ⊎_elim
-            (λ z. inl (half_else s.views n v w at c.to (Reads (spot j c.entry.value))
-            (no_reads v.half (spot j c.entry.value) idle) z))
-            (λ z. inr (set_else s.homes old j none ne ∙ z)) y.1,
+      ⊎_elim
+      (λ z. inl (
+        z.0,
+        half_else s.views n v w at c.to (Reads (spot j c.entry.value))
+            (no_reads v.half (spot j c.entry.value) idle) z.1,
       ))
+      (λ z. inr (z.0, set_else s.homes old j none ne ∙ z.1))
+      (k.taken_ j c t))
       (λ (t : (j ≡ length k.history.claims) × (claim ≡ c)).
-      let q : j ≡ old = t.0 ∙ sym is in (
-        subst (λ (i : ℕ). get_elem? k.states i ≡ some 1) (sym q) marked.0,
-        inl (subst (λ (y : ℕ × Claim T). HasHalf (slice_set s.views n w) y.1.to (Reads (spot y.0 y.1.entry.value)))
-            (λ i. (sym q i, t.1 i))
-            (half_here s.views n v w at (Reads (spot old b.value)) w_half)),
-      ))
+      let q : j ≡ old = t.0 ∙ sym is in
+      inl (subst (λ (y : ℕ × Claim T). (get_elem? k.states y.0 ≡ some (k.names y.1.entry.by + 1))
+      × HasHalf (slice_set s.views n w) y.1.to (Reads (spot y.0 y.1.entry.value)))
+      (λ i. (sym q i, t.1 i))
+      (marked.0, half_here s.views n v w at (Reads (spot old b.value)) w_half)))
       (snoc_at k.history.claims claim c j c_at)
 
   claim_halves : (j : ℕ) (half : Half T) → HalfFits k.history k.states j half → HalfFits claimed k.states j half
@@ -191,7 +191,7 @@ module _ {T : Type 0} where
           counted = let l = look.0 in omega arith;
           given = refl;
           over = λ _ none_there. absurd (let z : length k.history.rest ≡ 0 = ap length none_there in omega arith);
-          role = refl;
+          card = refl;
           out_ = refl;
           same = same_;
           idle = let o = same_ k.hub (λ q. mem.no_hub (sym q)) in (o.0 ∙ k.idle.0, o.1 ∙ k.idle.1, k.idle.2);
@@ -210,7 +210,10 @@ module _ {T : Type 0} where
             hub_ = λ q. absurd (no_hub v.role role q);
             back = λ q. absurd (no_spent v.role role q);
             debt = λ no_. absurd (no_ role);
-            half = ((b.by, here s k n v w at old now_ r.1 idle b bs first refl), home.0);
+            half = (
+              (b.by, here s k n v w at old now_ r.1 idle b bs first refl),
+              (k.names b.by + 1, home.0, omega arith, let f = k.short b.by in omega arith),
+            );
             low = omega arith;
             ripe = λ j e. let r = fit.ripe j e in let l = r.2 in (r.0, r.1, omega arith);
             full = λ on. sd ∙ fit.full on;

@@ -50,7 +50,7 @@ module _ {T : Type 0} (s : St T) (k : Keeps s) (n : ℕ) (v : View T) (at : get_
       let u = k.undrawn j (omega arith) lt in
       (u.0, set_else s.homes old j none ne ∙ u.1)
 
-  draw_waits : Waiting longer (slice_set s.views n w) k.states lent
+  draw_waits : Waiting k.names longer (slice_set s.views n w) k.states lent
   draw_waits j e le e_at = ⊎_elim
       (λ (t : get_elem? (all_entries k.history) j ≡ some e).
       let b = below_length (all_entries k.history) j e t in
@@ -74,17 +74,18 @@ module _ {T : Type 0} (s : St T) (k : Keeps s) (n : ℕ) (v : View T) (at : get_
       ))
       (snoc_at (all_entries k.history) entry e j (subst (λ (l : List (Entry T)). get_elem? l j ≡ some e) long e_at))
 
-  draw_taken : Taken longer (slice_set s.views n w) k.states lent
+  draw_taken : Taken k.names longer (slice_set s.views n w) k.states lent
   draw_taken j c c_at =
       let b = below_length k.history.claims j c c_at in
       let ne : j ≢ old = λ q. omega arith in
-      let t = k.taken_ j c c_at in (
-        t.0,
-        ⊎_elim
-            (λ z. inl (half_else s.views n v w at c.to (Reads (spot j c.entry.value))
-            (no_reads v.half (spot j c.entry.value) idle) z))
-            (λ z. inr (set_else s.homes old j none ne ∙ z)) t.1,
-      )
+      ⊎_elim
+      (λ z. inl (
+        z.0,
+        half_else s.views n v w at c.to (Reads (spot j c.entry.value))
+            (no_reads v.half (spot j c.entry.value) idle) z.1,
+      ))
+      (λ z. inr (z.0, set_else s.homes old j none ne ∙ z.1))
+      (k.taken_ j c c_at)
 
   draw_halves : (j : ℕ) (half : Half T) → HalfFits k.history k.states j half → HalfFits longer k.states j half
   draw_halves j Nothing f = tt
@@ -176,7 +177,7 @@ module _ {T : Type 0} where
           counted = omega arith;
           given = refl;
           over = λ none_free none_there. absurd (omega arith);
-          role = refl;
+          card = refl;
           out_ = refl;
           same = same_;
           idle = let o = same_ k.hub (λ q. mem.no_hub (sym q)) in (o.0 ∙ k.idle.0, o.1 ∙ k.idle.1, k.idle.2);
@@ -298,7 +299,7 @@ module _ {T : Type 0} where
           counted = omega arith;
           given = refl;
           over = λ _ none_there. (shut_, none_there);
-          role = refl;
+          card = refl;
           out_ = refl;
           same = same_;
           idle = (k.idle.0, k.idle.1, (same_ k.hub (λ q. mem.no_hub (sym q))).2 ∙ k.idle.2);

@@ -11,7 +11,7 @@ use Rattle.mb_segment.proofs.Totals.{below_total, some_view}
 use Rattle.mb_segment.proofs.Spots.{index_at}
 use Rattle.mb_segment.proofs.Halves.{no_writes}
 use Rattle.mb_segment.proofs.Kept.{St, at0, at1}
-use Rattle.mb_segment.proofs.PassMoves.{out_of_hub}
+use Rattle.mb_segment.proofs.BackMoves.{out_of_hub}
 use Rattle.mb_segment.proofs.Places.{closer, drawer, taker}
 use Rattle.std.specs.Prelude.{slice_index_or}
 use Rattle.atomic_table.specs.Table.{Final, Seen}
@@ -56,7 +56,7 @@ module _ {T : Type 0} where
         go Member q = absurd (no_member j u e q)
         go Spent q = q
 
-    nothing_begun : (j : ℕ) (half : Half T) → (Nothing ≡ half → ⊥) → HasHalf s.views j half → ⊥
+    pub nothing_begun : (j : ℕ) (half : Half T) → (Nothing ≡ half → ⊥) → HasHalf s.views j half → ⊥
     nothing_begun j half other h = go h.0.role refl
       where
         go : (r : Role) → h.0.role ≡ r → ⊥
@@ -65,7 +65,7 @@ module _ {T : Type 0} where
         go Spent e = other (sym ((k.fits j h.0 h.1).back e).1 ∙ h.2)
 
     -- who is neither the hub nor without a view came back
-    in_roll : (j : ℕ) → (length s.views ≤ j → ⊥) → (j ≡ k.hub → ⊥) → In j k.roll
+    pub in_roll : (j : ℕ) → (length s.views ≤ j → ⊥) → (j ≡ k.hub → ⊥) → In j k.roll
     in_roll j there_ ne =
         let u = some_view s.views j (omega arith) in
         ((k.fits j u.0 u.1).back (is_back j u.0 u.1 ne)).0

@@ -2,7 +2,7 @@
 use Rattle.mb_segment.proofs.Base.{Bool, List, None, Option, Some, [], ap, arith, false, get_elem?, inl, inr, length, refl}
 use Rattle.mb_segment.proofs.Base.{replicate, set_else, set_here, slice_set, some, some-injective, subst, suc}
 use Rattle.mb_segment.proofs.Base.{sym, true, zero, ℕ, ℕ_discrete, ◌+◌, ◌-◌, ◌<◌, ◌∙◌, ◌∷◌, ◌≡◌, ◌⊎◌}
-use Rattle.mb_segment.specs.Vocabulary.{Account, Duty, Fits, Half, HasHalf, History, In, Issuer, Match, MaySend, MayTake, Member, Nothing}
+use Rattle.mb_segment.specs.Vocabulary.{Account, Called, Duty, Fits, Half, HasHalf, History, In, Issuer, Match, MaySend, MayTake, Member, Nothing}
 use Rattle.mb_segment.specs.Vocabulary.{Reads, Role, Spent, Spot, View, Writes, cuts_by, drawn, free, got_by, has_cut, if_hub, is_of}
 use Rattle.mb_segment.specs.Vocabulary.{listed, no_duty, one_if_member, or, owed, sent_by, taken}
 use Rattle.mb_segment.proofs.Totals.{there}
@@ -134,6 +134,14 @@ module _ {T : Type 0} where
   match_kept h g (j ∷ js) [] all m = absurd m
   match_kept h g (j ∷ js) (a ∷ more) all m = let o = all j (inl refl) in
       (m.0 ∙ sym o.0, m.1 ∙ sym o.1, m.2 ∙ sym o.2, match_kept h g js more (λ i in_. all i (inr in_)) m.3)
+
+  pub called_kept : (names later : ℕ → ℕ) (roll : List ℕ) (as_ : List (Account T))
+      → ((j : ℕ) → In j roll → later j ≡ names j) → Called names roll as_ → Called later roll as_
+  called_kept names later [] [] all c = tt
+  called_kept names later [] (a ∷ more) all c = absurd c
+  called_kept names later (j ∷ js) [] all c = absurd c
+  called_kept names later (j ∷ js) (a ∷ more) all c =
+      (c.0 ∙ sym (all j (inl refl)), called_kept names later js more (λ i in_. all i (inr in_)) c.1)
 
   -- who has begun something still has, where the step's view keeps it
   pub half_stays : (views : List (View T)) (n : ℕ) (v w : View T) → get_elem? views n ≡ some v → w.half ≡ v.half

@@ -1,12 +1,12 @@
 -- What a step has to show, so that the rule holds after it.
-use Rattle.mb_segment.proofs.Base.{Act, Allows, List, Option, Some, State, Valid, [], ap, arith, at_set}
+use Rattle.mb_segment.proofs.Base.{Act, Allows, List, Option, State, Valid, [], ap, arith, at_set}
 use Rattle.mb_segment.proofs.Base.{carried_after, either, exchanged, false, get_elem?, inl, inr, keeps, length, refl}
 use Rattle.mb_segment.proofs.Base.{set_again, slice_index, slice_set, some}
-use Rattle.mb_segment.proofs.Base.{stepped, subst, sym, true, ℕ, ⊎_elim, ◌*◌, ◌+◌}
-use Rattle.mb_segment.proofs.Base.{◌-◌, ◌<◌, ◌==◌, ◌∙◌, ◌∷◌, ◌≡◌, ◌≢◌, ◌≤◌}
-use Rattle.mb_segment.specs.Vocabulary.{Account, AllHeed, Duty, Event, Fits, HasLooked, blind, Half, HalfFits, History, Homes, IsAware, Keeps, Known}
-use Rattle.mb_segment.specs.Vocabulary.{Match, Member, Quiet, Reads, Sat, Shut, Sight, Taken, Undrawn, View, Waiting}
-use Rattle.mb_segment.specs.Vocabulary.{Writes, closing, cuts_by, drawn, free, got_by, has_cut, if_hub, listed, member, no_duty}
+use Rattle.mb_segment.proofs.Base.{stepped, subst, sym, ℕ, ⊎_elim, ◌*◌, ◌+◌}
+use Rattle.mb_segment.proofs.Base.{◌-◌, ◌<◌, ◌==◌, ◌∙◌, ◌≡◌, ◌≢◌, ◌≤◌}
+use Rattle.mb_segment.specs.Vocabulary.{Account, Called, Duty, Event, Fits, HasLooked, blind, Half, HalfFits, History, Homes, IsCalled, Issuer, Keeps}
+use Rattle.mb_segment.specs.Vocabulary.{Match, Member, Quiet, Reads, Role, Sat, Shut, Taken, Undrawn, View, Waiting}
+use Rattle.mb_segment.specs.Vocabulary.{Writes, closing, cuts_by, drawn, free, got_by, has_cut, if_hub, listed, member}
 use Rattle.mb_segment.specs.Vocabulary.{Tokens, one_if_member, out, owed, row, sent_by, sleeping, spot, taken, tokens_given, tokens_taken, total}
 use Rattle.mb_segment.proofs.Totals.{asleep_listed, length_set, there, total_set}
 use Rattle.mb_segment.proofs.Halves.{half_stays}
@@ -31,6 +31,10 @@ abbrev pub free_in : {T : Type 0} → History T → List ℕ → ℕ → ℕ
 free_in h states cut = free cut (length states - drawn h)
 
 module _ {T : Type 0} where
+  -- who has a view, its name, and the accounts of those that came back
+  abbrev pub card_of : View T → Role × ℕ × List (Account T)
+  card_of v = (v.role, v.account.name, v.ends)
+
   -- other passes did the same
   abbrev pub Same : History T → History T → ℕ → Type 0
   Same h g n = (j : ℕ) → j ≢ n → (sent_by j g ≡ sent_by j h) × (got_by j g ≡ got_by j h) × (has_cut j g ≡ has_cut j h)
@@ -73,13 +77,13 @@ module _ {T : Type 0} where
     pub cutter : x.cut ≡ cuts_by x.history.cutter
     pub marks : (j : ℕ) → get_elem? k.states j ≢ some 0 → get_elem? x.states j ≢ some 0
     pub undrawn : Undrawn x.history x.states x.homes
-    pub waits : Waiting x.history (slice_set s.views n w) x.states x.homes
-    pub taken_ : Taken x.history (slice_set s.views n w) x.states x.homes
+    pub waits : Waiting k.names x.history (slice_set s.views n w) x.states x.homes
+    pub taken_ : Taken k.names x.history (slice_set s.views n w) x.states x.homes
     pub counted : listed w + (k.tokens + k.waiting) ≡ listed v + (x.tokens + x.waiting)
     pub given : tokens_given w + (k.tokens + tokens_taken v) ≡ tokens_given v + (x.tokens + tokens_taken w)
     pub over : free_in k.history k.states k.cut ≡ 0 → k.history.rest ≡ [] → (free_in x.history x.states x.cut ≡ 0)
         × (x.history.rest ≡ [])
-    pub role : w.role ≡ v.role
+    pub card : card_of w ≡ card_of v
     pub out_ : w.out ≡ v.out
     pub same : Same k.history x.history n
     pub idle : (sent_by k.hub x.history ≡ []) × (got_by k.hub x.history ≡ []) × (has_cut k.hub x.history ≡ false)
@@ -117,6 +121,11 @@ module _ {T : Type 0} where
         (omega arith, omega arith, f.heard.2, f.heard.3);
     over = λ e. let r = f.over e in o.over r.0 r.1;
   }
+
+  still_called : (s : St T) (k : Keeps s) (n : ℕ) (v w : View T) → get_elem? s.views n ≡ some v
+      → card_of w ≡ card_of v → IsCalled k.names k.roll n w
+  still_called s k n v w at card = subst (λ (c : Role × ℕ × List (Account T)).
+      (c.0 ≡ Member → c.1 ≡ k.names n) × (c.0 ≡ Issuer → Called k.names k.roll c.2)) (sym card) (k.called n v at)
 
   pub moved : (s : St T) (k : Keeps s) (n : ℕ) (v w : View T) (x : Next T) → get_elem? s.views n ≡ some v
       → Keeping s k n v w x
@@ -161,6 +170,8 @@ module _ {T : Type 0} where
             (λ i. (sym t.0 i, t.1 i)) (o.walk.own (ap (λ (y : View T). y.role) t.1 ∙ r)))
             (λ (t : (j ≢ n) × (get_elem? s.views j ≡ some u)). o.walk.others j u.sight t.0 (k.looked j u t.1 r))
             (at_set s.views n j w u e);
+        names = k.names;
+        short = k.short;
         undrawn = o.undrawn;
         waits = o.waits;
         taken_ = o.taken_;
@@ -176,8 +187,8 @@ module _ {T : Type 0} where
         known = let b = k.known in omega arith;
         out_ =
             let a = total_set member s.views n v w at in let b = total_set out s.views n v w at in
-            let p : member w ≡ member v = ap one_if_member o.role in
-            let q : out w ≡ out v = λ i. if_hub (o.role i) (o.out_ i) in
+            let p : member w ≡ member v = λ i. one_if_member (o.card i).0 in
+            let q : out w ≡ out v = λ i. if_hub (o.card i).0 (o.out_ i) in
             let e = k.out_ in omega arith;
         newborn = λ j long. (
             let apart : j ≢ n = λ q. omega arith in
@@ -188,6 +199,11 @@ module _ {T : Type 0} where
               sym (o.walk.others j blind apart (sym nb.3, λ some_. absurd (omega arith))).0,
             )
             );
+        called = λ j u e. ⊎_elim
+            (λ (t : (j ≡ n) × (w ≡ u)). subst (λ (y : ℕ × View T). IsCalled k.names k.roll y.0 y.1)
+            (λ i. (sym t.0 i, t.1 i)) (still_called s k n v w at o.card))
+            (λ (t : (j ≢ n) × (get_elem? s.views j ≡ some u)). k.called j u t.1)
+            (at_set s.views n j w u e);
         fits = λ j u e. ⊎_elim
             (λ (t : (j ≡ n) × (w ≡ u)). subst (λ (y : ℕ × View T). Fits x.history x.states x.cut k.hub k.roll y.0
             y.1)
@@ -199,18 +215,17 @@ module _ {T : Type 0} where
   -- ---- steps that draw, claim, mark and read nothing
   pub waits_stay : (s : St T) (k : Keeps s) (n : ℕ) (v w : View T) → get_elem? s.views n ≡ some v
       → w.half ≡ v.half
-      → Waiting k.history (slice_set s.views n w) k.states s.homes
+      → Waiting k.names k.history (slice_set s.views n w) k.states s.homes
   waits_stay s k n v w at e i x le x_at = ⊎_elim
       (λ z. inl (z.0, half_stays s.views n v w at e x.by (Writes (spot i x.value)) z.1)) (λ z. inr z)
       (k.waits i x le x_at)
 
   pub taken_stay : (s : St T) (k : Keeps s) (n : ℕ) (v w : View T) → get_elem? s.views n ≡ some v
       → w.half ≡ v.half
-      → Taken k.history (slice_set s.views n w) k.states s.homes
-  taken_stay s k n v w at e i c c_at = let t = k.taken_ i c c_at in (
-    t.0,
-    ⊎_elim (λ z. inl (half_stays s.views n v w at e c.to (Reads (spot i c.entry.value)) z)) (λ z. inr z) t.1,
-  )
+      → Taken k.names k.history (slice_set s.views n w) k.states s.homes
+  taken_stay s k n v w at e i c c_at = ⊎_elim
+      (λ z. inl (z.0, half_stays s.views n v w at e c.to (Reads (spot i c.entry.value)) z.1)) (λ z. inr z)
+      (k.taken_ i c c_at)
 
   -- the same words of positions, and the same slots
   abbrev pub still : (s : St T) → Keeps s → Next T → Next T
@@ -223,7 +238,7 @@ module _ {T : Type 0} where
     pub narrow : x.tokens < 4294967296
     pub counted : listed w + (k.tokens + k.waiting) ≡ listed v + (x.tokens + x.waiting)
     pub given : tokens_given w + (k.tokens + tokens_taken v) ≡ tokens_given v + (x.tokens + tokens_taken w)
-    pub role : w.role ≡ v.role
+    pub card : card_of w ≡ card_of v
     pub out_ : w.out ≡ v.out
     pub half : w.half ≡ v.half
     pub own : Fits k.history k.states k.cut k.hub k.roll n w
@@ -251,7 +266,7 @@ module _ {T : Type 0} where
         counted = o.counted;
         given = o.given;
         over = λ f e. (f, e);
-        role = o.role;
+        card = o.card;
         out_ = o.out_;
         same = λ j ne. (refl, refl, refl);
         idle = k.idle;
@@ -264,88 +279,23 @@ module _ {T : Type 0} where
 
   -- the same where no word changes
   pub settled : (s : St T) (k : Keeps s) (n : ℕ) (v w : View T) → get_elem? s.views n ≡ some v → listed w
-      ≡ listed v → w.role ≡ v.role
+      ≡ listed v → card_of w ≡ card_of v
       → w.out ≡ v.out → w.half ≡ v.half → w.tokens ≡ v.tokens → SameLooks v.sight w.sight
       → Fits k.history k.states k.cut k.hub k.roll n w
       → Laws s k v w (now s k)
       → Keeps record { words = s.words; homes = s.homes; views = slice_set s.views n w }
-  settled s k n v w at li ro ou ha to si own laws = steady s k n v w (now s k) at record {
+  settled s k n v w at li ca ou ha to si own laws = steady s k n v w (now s k) at record {
     words = k.words;
     narrow = k.narrow;
     counted = omega arith;
     given = ap (λ (c : Tokens). c.gave + (k.tokens + v.tokens.took)) to
         ∙ ap (λ (c : Tokens). v.tokens.gave + (k.tokens + c.took)) (sym to);
-    role = ro;
+    card = ca;
     out_ = ou;
     half = ha;
     own = own;
-    walk = unmoved s k n v w at ro si;
+    walk = unmoved s k n v w at (ap (λ (c : Role × ℕ × List (Account T)). c.0) ca) si;
     laws = laws;
-  }
-
-  -- ---- a view that differs in what it owes alone. Only a pass owes anything
-  abbrev pub StaysIdle : View T → Duty → Type 0
-  StaysIdle v d = (v.role ≡ Member → ⊥) → v.duty ≡ no_duty → d ≡ no_duty
-
-  abbrev pub Plain : View T → View T → Type 0
-  Plain v w = (w.role ≡ v.role) × (w.account ≡ v.account) × (w.half ≡ v.half) × (w.sight ≡ v.sight)
-      × (w.over ≡ v.over) × (w.ends ≡ v.ends) × (w.known ≡ v.known) × StaysIdle v w.duty
-
-  pub refit : (h : History T) (states : List ℕ) (cut hub : ℕ) (roll : List ℕ) (n : ℕ) (v w : View T) → Plain v w
-      → Fits h states cut hub roll n v → Fits h states cut hub roll n w
-  refit h states cut hub roll n v w p f = record {
-    member = λ r. let m = f.member (sym p.0 ∙ r) in record {
-      sent = ap (λ (a : Account T). a.sent) p.1 ∙ m.sent;
-      got = ap (λ (a : Account T). a.got) p.1 ∙ m.got;
-      cut = ap (λ (a : Account T). a.cut) p.1 ∙ m.cut;
-      no_hub = m.no_hub;
-      not_back = m.not_back;
-    };
-    hub_ = λ r. let m = f.hub_ (sym p.0 ∙ r) in record {
-      here = m.here;
-      ends = subst (λ (as_ : List (Account T)). Match h roll as_) (sym p.5) m.ends;
-      nothing = p.2 ∙ m.nothing;
-      idle = ap (λ (a : Account T). a.sent) p.1 ∙ m.idle;
-    };
-    back = λ r. let m = f.back (sym p.0 ∙ r) in
-        (m.0, p.2 ∙ m.1, ap (λ (a : Account T). a.sent) p.1 ∙ m.2);
-    debt = λ no_. let none_ : v.role ≡ Member → ⊥ = λ r. no_ (p.0 ∙ r) in p.7 none_ (f.debt none_);
-    half = subst (λ (x : Half T). HalfFits h states n x) (sym p.2) f.half;
-    low = subst (λ (x : Sight). x.low ≤ taken h) (sym p.3) f.low;
-    ripe = λ i e. f.ripe i (sym (ap (λ (x : Sight). x.ripe) p.3) ∙ e);
-    full = λ e. f.full (sym (ap (λ (x : Sight). x.full) p.3) ∙ e);
-    cut_ = λ e. f.cut_ (sym (ap (λ (x : Sight). x.cut) p.3) ∙ e);
-    empty = subst (λ (x : Sight). x.empty ≤ taken h) (sym p.3) f.empty;
-    heard = (
-      subst (λ (x : Known). x.drawn ≤ drawn h) (sym p.6) f.heard.0,
-      subst (λ (x : Known). x.taken ≤ taken h) (sym p.6) f.heard.1,
-      subst (λ (y : Known × Account T). IsAware y.0 y.1) (λ i. (sym p.6 i, sym p.1 i)) f.heard.2,
-      subst (λ (l : List (Account T)). AllHeed l) (λ i. sym p.1 i ∷ sym p.5 i) f.heard.3,
-    );
-    over = λ e. f.over (sym p.4 ∙ e);
-  }
-
-  -- a view that saw something more
-  pub sighted : (h : History T) (states : List ℕ) (cut hub : ℕ) (roll : List ℕ) (n : ℕ) (v : View T) (x : Sight)
-      → Fits h states cut hub roll n v → x.low ≤ taken h
-      → ((i : ℕ) → x.ripe ≡ Some i → (i < length states) × (get_elem? states i ≢ some 0) × (i ≤ taken h))
-      → (x.full ≡ true → drawn h ≡ length states) → (x.cut ≡ true → 0 < cut) → x.empty ≤ taken h
-      → Fits h states cut hub roll n record v { sight = x }
-  sighted h states cut hub roll n v x f low ripe full cut_ empty = record {
-    member = λ r. let m = f.member r in
-        record { sent = m.sent; got = m.got; cut = m.cut; no_hub = m.no_hub; not_back = m.not_back };
-    hub_ = λ r. let m = f.hub_ r in
-        record { here = m.here; ends = m.ends; nothing = m.nothing; idle = m.idle };
-    back = f.back;
-    debt = f.debt;
-    half = f.half;
-    low = low;
-    ripe = ripe;
-    full = full;
-    cut_ = cut_;
-    empty = empty;
-    heard = f.heard;
-    over = f.over;
   }
 
   -- the same words, and nothing owed: the laws of sleep still hold

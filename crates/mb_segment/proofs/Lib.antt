@@ -4,6 +4,7 @@ pub mod Totals
 pub mod Spots
 pub mod Halves
 pub mod Walks
+pub mod Fitting
 pub mod Kept
 pub mod DrawMoves
 pub mod AskMoves
@@ -13,6 +14,8 @@ pub mod ReadMoves
 pub mod LookMoves
 pub mod LearnMoves
 pub mod ListMoves
-pub mod PassMoves
 pub mod Places
+pub mod PassMoves
+pub mod BackMoves
 pub mod Endings
+pub mod Fates

@@ -6,7 +6,8 @@ use Rattle.mb_segment.specs.Vocabulary.{Duty, Keeps, Member, Sat, always, drawn,
 use Rattle.mb_segment.specs.Vocabulary.{gives_up, goes_unseen, hands_on, has_closed, has_woken, if_none_waits}
 use Rattle.mb_segment.specs.Vocabulary.{Sight, View, gives_token, leaves, leaves_with_token, listed, owed, row, same, taken, takes_token}
 use Rattle.mb_segment.specs.Vocabulary.{tokens_given, tokens_taken, wakes_up, with_duty}
-use Rattle.mb_segment.proofs.Kept.{Goes, Laws, Plain, St, StaysIdle, at2, exchanges, loaded, now, refit, settled, stays, steady}
+use Rattle.mb_segment.proofs.Kept.{Goes, Laws, St, at2, exchanges, loaded, now, settled, stays, steady}
+use Rattle.mb_segment.proofs.Fitting.{Plain, StaysIdle, refit}
 use Rattle.mb_segment.proofs.Walks.{unmoved}
 use Rattle.mb_segment.proofs.LookMoves.{owing, plain}
 
@@ -35,7 +36,7 @@ module _ {T : Type 0} where
               narrow = x.3;
               counted = x.4;
               given = x.5;
-              role = plain_.0;
+              card = λ i. (plain_.0 i, (plain_.1 i).name, plain_.5 i);
               out_ = out_;
               half = plain_.2;
               own = refit k.history k.states k.cut k.hub k.roll n me.0 (f me.0) plain_ (k.fits n me.0 at);

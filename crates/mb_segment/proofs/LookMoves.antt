@@ -8,8 +8,9 @@ use Rattle.mb_segment.specs.Vocabulary.{done, drawn, falls_asleep}
 use Rattle.mb_segment.specs.Vocabulary.{free, listed, looked, no_duty, looking, mark_in, seeing_taken, sees_empty, sees_taken, told, with_duty}
 use Rattle.mb_segment.proofs.Spots.{all_length, below_by, nothing_left}
 use Rattle.mb_segment.proofs.Halves.{free_open}
-use Rattle.mb_segment.proofs.Kept.{Goes, Plain, St, StaysIdle, at0, at1, at_rest, loaded, now, refit, settled, sighted}
+use Rattle.mb_segment.proofs.Kept.{Goes, St, at0, at1, at_rest, loaded, now, settled}
 use Rattle.mb_segment.proofs.Kept.{stays, steady}
+use Rattle.mb_segment.proofs.Fitting.{Plain, StaysIdle, refit, sighted}
 use Rattle.mb_segment.proofs.Walks.{a_look}
 
 -- a view that differs in what it owes alone
@@ -119,7 +120,7 @@ module _ {T : Type 0} where
           narrow = k.narrow;
           counted = omega arith;
           given = omega arith;
-          role = refl;
+          card = refl;
           out_ = refl;
           half = refl;
           own = sighted k.history k.states k.cut k.hub k.roll n (with_duty f me.0) w.sight

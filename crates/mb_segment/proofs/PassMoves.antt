@@ -1,26 +1,45 @@
--- A new segment meets the rule. The hub issues passes and takes them back, and the rule holds.
-use Rattle.mb_segment.proofs.Base.{Joins, List, None, Splits, [], ap, arith, at_longer, at_set, get_elem?}
-use Rattle.mb_segment.proofs.Base.{inl, inr, length, opening, refl, replicate, slice_set, some}
-use Rattle.mb_segment.proofs.Base.{some-injective, some-ne-none, subst, suc, sym, true≢false, zero, ℕ, ⊎_elim}
-use Rattle.mb_segment.proofs.Base.{◌++◌, ◌+◌, ◌-◌, ◌<◌, ◌∙◌, ◌∷◌, ◌≡◌, ◌≢◌}
-use Rattle.mb_segment.specs.Vocabulary.{Duty, Fits, Half, HasHalf, HasLooked, History, In, IsMember, Issuer, Keeps}
-use Rattle.mb_segment.specs.Vocabulary.{Match, Member, Nothing, Reads, Role, Spent, View, Writes, blank}
-use Rattle.mb_segment.specs.Vocabulary.{closing, if_hub, issued, listed, member, new_hub, no_duty}
-use Rattle.mb_segment.specs.Vocabulary.{one_if_member, out, owed, row, sleeping, spent, spot, tokens_given, tokens_taken, took_back, total}
-use Rattle.mb_segment.proofs.Totals.{below_total, length_set, length_snoc, one_in_total, snoc_cases, there}
-use Rattle.mb_segment.proofs.Totals.{total_set, total_snoc}
-use Rattle.mb_segment.proofs.Spots.{map_length, no_some, replicate_at, replicate_length}
-use Rattle.mb_segment.proofs.Halves.{either_over, empty_slots, half_stays, hub_is_no_member, hub_is_not_spent, no_hub}
+-- A new segment meets the rule. The hub issues passes, and the rule holds.
+use Rattle.mb_segment.proofs.Base.{List, None, Splits, [], ap, arith, at_longer, at_set, eq-eqb, false, get_elem?}
+use Rattle.mb_segment.proofs.Base.{Bool, if◌then◌else◌, inl, inr, length, nat_eq, ne_eqb, opening, refl, replicate, slice_set, some}
+use Rattle.mb_segment.proofs.Base.{some-ne-none, subst, sym, true, true≢false, ℕ, ⊎_elim}
+use Rattle.mb_segment.proofs.Base.{◌*◌, ◌++◌, ◌+◌, ◌<◌, ◌∙◌, ◌∷◌, ◌≡◌, ◌≢◌, ◌≤◌}
+use Rattle.mb_segment.specs.Vocabulary.{Fits, Half, HasHalf, HasLooked, History, In, IsCalled, IsMember, Issuer, Keeps}
+use Rattle.mb_segment.specs.Vocabulary.{Match, Member, Reads, Role, Spent, Taken, View, Waiting, Writes, blank, closing, if_hub}
+use Rattle.mb_segment.specs.Vocabulary.{issued, listed, member, named, new_hub, out, owed, row, sleeping, spot, tokens_given, tokens_taken}
+use Rattle.mb_segment.proofs.Totals.{first_is, length_set, length_snoc, snoc_cases, there, total_set, total_snoc}
+use Rattle.mb_segment.proofs.Spots.{entry_of, map_length, no_some, replicate_at, replicate_length}
+use Rattle.mb_segment.proofs.Halves.{called_kept, empty_slots, half_stays, hub_is_no_member, hub_is_not_spent, no_hub}
 use Rattle.mb_segment.proofs.Halves.{spent_is_no_member}
-use Rattle.mb_segment.proofs.Kept.{St, refit}
+use Rattle.mb_segment.proofs.Fitting.{refit}
+use Rattle.mb_segment.proofs.Kept.{St}
+use Rattle.mb_segment.proofs.Places.{drawer, taker}
 use Rattle.atomic_table.proofs.Lists.{at_map}
+
+-- the names of the passes, where the next one has a name too
+abbrev and_next : (ℕ → ℕ) → ℕ → ℕ → ℕ → ℕ
+and_next names n name j = if nat_eq j n then name else names j
+
+old_name : (names : ℕ → ℕ) (n name j : ℕ) → (n ≤ j → ⊥) → and_next names n name j ≡ names j
+old_name names n name j under =
+    ap (λ b. if b then name else names j) (ne_eqb j n (λ q. under (omega arith)))
+
+new_name : (names : ℕ → ℕ) (n name j : ℕ) → j ≡ n → and_next names n name j ≡ name
+new_name names n name j q = ap (λ b. if b then name else names j) (eq-eqb j n q)
+
+all_short : (names : ℕ → ℕ) (n name : ℕ) → name < 4294967295 → ((j : ℕ) → names j < 4294967295) → (j : ℕ)
+    → and_next names n name j < 4294967295
+all_short names n name lt all j = go (all j) (nat_eq j n)
+  where
+    go : names j < 4294967295 → (b : Bool) → (if b then name else names j) < 4294967295
+    go f true = lt
+    go f false = f
 
 module _ {T : Type 0} where
   -- a view of a pass that did nothing, or of one that came back, saw nothing
-  pub unseen : (h : History T) (states : List ℕ) (cut hub : ℕ) (roll : List ℕ) (n : ℕ) (r : Role)
+  pub unseen : (h : History T) (states : List ℕ) (cut hub : ℕ) (roll : List ℕ) (n name : ℕ) (r : Role)
       → (r ≡ Member → IsMember h hub roll n blank) → (r ≡ Issuer → (n ≡ hub) × Match h roll [])
-      → (r ≡ Spent → In n roll) → Fits h states cut hub roll n record blank { role = r }
-  unseen h states cut hub roll n r is_member hub_ back = record {
+      → (r ≡ Spent → In n roll) → Fits h states cut hub roll n record (named name) { role = r }
+  unseen h states cut hub roll n name r is_member hub_ back = record {
     member = λ e. let m = is_member e in record {
       sent = m.sent;
       got = m.got;
@@ -43,10 +62,6 @@ module _ {T : Type 0} where
   }
 
   -- ---- a new segment
-  pub first_is : (n : ℕ) (v : View T) → get_elem? (new_hub ∷ []) n ≡ some v → (0 ≡ n) × (new_hub ≡ v)
-  first_is zero v at = (refl, some-injective new_hub v at)
-  first_is (suc n) v at = absurd (some-ne-none v (sym at))
-
   abbrev unused : History T
   unused = record { claims = []; rest = []; cutter = None }
 
@@ -72,6 +87,10 @@ module _ {T : Type 0} where
         walked = (refl, refl);
         true_ = tt;
         looked = λ n v at r. absurd (hub_is_no_member (ap (λ (y : View T). y.role) (first_is n v at).1 ∙ r));
+        names = λ j. 0;
+        short = λ j. omega arith;
+        called = λ n v at. let f = first_is n v at in
+            subst (λ (y : ℕ × View T). IsCalled (λ j. 0) [] y.0 y.1) (λ i. (f.0 i, f.1 i)) (λ _. refl, λ _. tt);
         undrawn = λ k le lt. (
           replicate_at count 0 k (omega arith),
           at_map some (empty_slots T count) k None (replicate_at count None k (omega arith)),
@@ -93,7 +112,7 @@ module _ {T : Type 0} where
         fits = λ n v at. let f = first_is n v at in
             subst (λ (y : ℕ × View T). Fits unused (replicate count 0) 0 0 [] y.0 y.1)
             (λ i. (f.0 i, f.1 i))
-            (unseen unused (replicate count 0) 0 0 [] 0 Issuer
+            (unseen unused (replicate count 0) 0 0 [] 0 0 Issuer
             (λ e. absurd (hub_is_no_member e)) (λ _. (refl, tt)) (λ e. absurd (hub_is_not_spent Issuer refl e)));
       }
 
@@ -102,22 +121,55 @@ module _ {T : Type 0} where
       (views ++ w ∷ []) j half
   then_longer views w j half h = (h.0, at_longer views (w ∷ []) j h.0 h.1, h.2)
 
-  pub splits : (n : ℕ) (v : View T) → v.role ≡ Issuer → Splits Keeps n v (issued v) blank
-  splits n v role s k at =
+  module _ (s : St T) (k : Keeps s) (name : ℕ) where
+    abbrev names : ℕ → ℕ
+    names = and_next k.names (length s.views) name
+
+    as_before : (j : ℕ) → (length s.views ≤ j → ⊥) → names j ≡ k.names j
+    as_before j under = old_name k.names (length s.views) name j under
+
+    still_called : (j : ℕ) (u : View T) → get_elem? s.views j ≡ some u → IsCalled names k.roll j u
+    still_called j u at = let under = there s.views j u at in let c = k.called j u at in (
+      λ r. c.0 r ∙ sym (as_before j (λ le. omega arith)),
+      λ r. called_kept k.names names k.roll u.ends
+          (λ i in_. let b = k.rolled i in_ in as_before i (λ le. omega arith)) (c.1 r),
+    )
+
+    still_waits : (one : List (View T)) → ((j : ℕ) (half : Half T) → HasHalf s.views j half → HasHalf one j half)
+        → Waiting names k.history one k.states s.homes
+    still_waits one has i e le e_at =
+        let q : k.names e.by ≡ names e.by = sym (as_before e.by (drawer s k i e e_at).0) in
+        ⊎_elim (λ z. inl (z.0, has e.by (Writes (spot i e.value)) z.1))
+        (λ z. inr (z.0 ∙ ap (λ (m : ℕ). some (m + 1)) q, z.1)) (k.waits i e le e_at)
+
+    still_taken : (one : List (View T)) → ((j : ℕ) (half : Half T) → HasHalf s.views j half → HasHalf one j half)
+        → Taken names k.history one k.states s.homes
+    still_taken one has i c c_at =
+        let e_at = entry_of k.history.claims k.history.rest i c c_at in
+        let q : k.names c.entry.by ≡ names c.entry.by = sym (as_before c.entry.by (drawer s k i c.entry e_at).0) in
+        let r : k.names c.to ≡ names c.to = sym (as_before c.to (taker s k i c c_at).0) in
+        ⊎_elim
+        (λ z. inl (z.0 ∙ ap (λ (m : ℕ). some (m + 1)) q, has c.to (Reads (spot i c.entry.value)) z.1))
+        (λ z. inr (z.0 ∙ (λ j. some (q j + 1 + 4294967296 * r j)), z.1)) (k.taken_ i c c_at)
+
+  pub splits : (name : ℕ) → name < 4294967295 → (n : ℕ) (v : View T) → v.role ≡ Issuer
+      → Splits Keeps n v (issued v) (named name)
+  splits name bound n v role s k at =
       let w : View T = issued v in
+      let new : View T = named name in
       let one : List (View T) = slice_set s.views n w in
       let many = length_set s.views n w in
-      let more = length_snoc one blank in
-      let a₀ = total_set listed s.views n v w at in let b₀ = total_snoc listed one blank in
-      let a₁ = total_set sleeping s.views n v w at in let b₁ = total_snoc sleeping one blank in
-      let a₂ = total_set owed s.views n v w at in let b₂ = total_snoc owed one blank in
-      let a₃ = total_set closing s.views n v w at in let b₃ = total_snoc closing one blank in
-      let a₄ = total_set member s.views n v w at in let b₄ = total_snoc member one blank in
-      let a₅ = total_set out s.views n v w at in let b₅ = total_snoc out one blank in
+      let more = length_snoc one new in
+      let a₀ = total_set listed s.views n v w at in let b₀ = total_snoc listed one new in
+      let a₁ = total_set sleeping s.views n v w at in let b₁ = total_snoc sleeping one new in
+      let a₂ = total_set owed s.views n v w at in let b₂ = total_snoc owed one new in
+      let a₃ = total_set closing s.views n v w at in let b₃ = total_snoc closing one new in
+      let a₄ = total_set member s.views n v w at in let b₄ = total_snoc member one new in
+      let a₅ = total_set out s.views n v w at in let b₅ = total_snoc out one new in
       let o₀ : if_hub v.role (v.out + 1) ≡ v.out + 1 = ap (λ (r : Role). if_hub r (v.out + 1)) role in
       let o₁ : if_hub v.role v.out ≡ v.out = ap (λ (r : Role). if_hub r v.out) role in
-      let a₆ = total_set tokens_given s.views n v w at in let b₆ = total_snoc tokens_given one blank in
-      let a₇ = total_set tokens_taken s.views n v w at in let b₇ = total_snoc tokens_taken one blank in
+      let a₆ = total_set tokens_given s.views n v w at in let b₆ = total_snoc tokens_given one new in
+      let a₇ = total_set tokens_taken s.views n v w at in let b₇ = total_snoc tokens_taken one new in
       let c = k.counted in
       let g = k.given in
       let o = k.out_ in
@@ -141,26 +193,18 @@ module _ {T : Type 0} where
             (λ (t : (j ≡ n) × (w ≡ u)). absurd (no_hub u.role r (ap (λ (y : View T). y.role) (sym t.1) ∙ role)))
             (λ (t : (j ≢ n) × (get_elem? s.views j ≡ some u)). k.looked j u t.1 r)
             (at_set s.views n j w u there_))
-            (λ (t : (j ≡ length one) × (blank ≡ u)).
+            (λ (t : (j ≡ length one) × (new ≡ u)).
             let l = t.0 in
             subst (λ (y : View T). HasLooked k.walk j y.sight) t.1
             (sym (k.newborn j (omega arith)).3, λ some_. absurd (omega arith)))
-            (snoc_cases one blank u j e);
+            (snoc_cases one new u j e);
+        names = names s k name;
+        short = all_short k.names (length s.views) name bound k.short;
         undrawn = k.undrawn;
-        waits = λ i e le e_at. ⊎_elim
-            (λ z. inl (
-              z.0,
-              then_longer one blank e.by (Writes (spot i e.value))
-                  (half_stays s.views n v w at refl e.by (Writes (spot i e.value)) z.1),
-            ))
-            (λ z. inr z) (k.waits i e le e_at);
-        taken_ = λ i c c_at. let t = k.taken_ i c c_at in (
-          t.0,
-          ⊎_elim
-              (λ z. inl (then_longer one blank c.to (Reads (spot i c.entry.value))
-              (half_stays s.views n v w at refl c.to (Reads (spot i c.entry.value)) z)))
-              (λ z. inr z) t.1,
-        );
+        waits = still_waits s k name (one ++ new ∷ [])
+            (λ j half h. then_longer one new j half (half_stays s.views n v w at refl j half h));
+        taken_ = still_taken s k name (one ++ new ∷ [])
+            (λ j half h. then_longer one new j half (half_stays s.views n v w at refl j half h));
         counted = omega arith;
         given = omega arith;
         quiet = ⊎_elim (λ x. inl (omega arith)) (λ x. inr (omega arith)) k.quiet;
@@ -173,6 +217,15 @@ module _ {T : Type 0} where
         known = let b = k.known in omega arith;
         out_ = omega arith;
         newborn = λ j long. k.newborn j (omega arith);
+        called = λ j u e. ⊎_elim
+            (λ there_. ⊎_elim
+            (λ (t : (j ≡ n) × (w ≡ u)). subst (λ (y : ℕ × View T). IsCalled (names s k name) k.roll y.0 y.1)
+            (λ i. (sym t.0 i, t.1 i)) (still_called s k name n v at))
+            (λ (t : (j ≢ n) × (get_elem? s.views j ≡ some u)). still_called s k name j u t.1)
+            (at_set s.views n j w u there_))
+            (λ (t : (j ≡ length one) × (new ≡ u)). subst (λ (y : View T). IsCalled (names s k name) k.roll j y) t.1
+            (λ _. sym (new_name k.names (length s.views) name j (t.0 ∙ many)), λ r. absurd (hub_is_no_member (sym r))))
+            (snoc_cases one new u j e);
         fits = λ j u e. ⊎_elim
             (λ there_. ⊎_elim
             (λ (t : (j ≡ n) × (w ≡ u)). subst (λ (y : ℕ × View T). Fits k.history k.states k.cut k.hub k.roll y.0
@@ -181,11 +234,11 @@ module _ {T : Type 0} where
             (k.fits n v at)))
             (λ (t : (j ≢ n) × (get_elem? s.views j ≡ some u)). k.fits j u t.1)
             (at_set s.views n j w u there_))
-            (λ (t : (j ≡ length one) × (blank ≡ u)).
+            (λ (t : (j ≡ length one) × (new ≡ u)).
             let l = t.0 in
             let nb = k.newborn j (omega arith) in
             subst (λ (y : View T). Fits k.history k.states k.cut k.hub k.roll j y) t.1
-            (unseen k.history k.states k.cut k.hub k.roll j Member
+            (unseen k.history k.states k.cut k.hub k.roll j name Member
             (λ _. record {
               sent = sym nb.0;
               got = sym nb.1;
@@ -195,187 +248,5 @@ module _ {T : Type 0} where
                   = λ in_. let b = k.rolled j in_ in omega arith;
             })
             (λ e. absurd (hub_is_no_member (sym e))) (λ e. absurd (spent_is_no_member (sym e)))))
-            (snoc_cases one blank u j e);
+            (snoc_cases one new u j e);
       }
-
-  -- ---- a pass comes back
-  -- only the hub has passes out
-  pub out_of_hub : (s : St T) (k : Keeps s) (n : ℕ) (v : View T) → get_elem? s.views n ≡ some v → v.role ≡ Issuer
-      → total out s.views ≡ v.out
-  out_of_hub s k n v at role =
-      one_in_total out s.views n v at (λ j u e ne. others u
-      (λ r. ne (((k.fits j u e).hub_ r).here ∙ sym ((k.fits n v at).hub_ role).here)))
-      ∙ ap (λ (r : Role). if_hub r v.out) role
-    where
-      others : (u : View T) → (u.role ≡ Issuer → ⊥) → out u ≡ 0
-      others u no_ = go u.role refl
-        where
-          go : (r : Role) → u.role ≡ r → if_hub u.role u.out ≡ 0
-          go Issuer e = absurd (no_ e)
-          go Member e = ap (λ (x : Role). if_hub x u.out) e
-          go Spent e = ap (λ (x : Role). if_hub x u.out) e
-
-  module _ (n : ℕ) (v : View T) (other : ℕ) (w : View T) (v_role : v.role ≡ Issuer) (w_role : w.role ≡ Member)
-      (w_half : w.half ≡ Nothing)
-      (w_duty : w.duty ≡ no_duty) (s : St T) (k : Keeps s) (at : get_elem? s.views n ≡ some v)
-      (apart : ¬ (other ≡ n))
-      (at_other : get_elem? (slice_set s.views n (took_back v w)) other ≡ some w) where
-    abbrev one : List (View T)
-    one = slice_set s.views n (took_back v w)
-
-    abbrev two : List (View T)
-    two = slice_set one other spent
-
-    was_other : get_elem? s.views other ≡ some w
-    was_other = ⊎_elim (λ (t : (other ≡ n) × (took_back v w ≡ w)). absurd (apart t.0))
-        (λ (t : (other ≢ n) × (get_elem? s.views other ≡ some w)). t.1)
-        (at_set s.views n other (took_back v w) w at_other)
-
-    was_member : IsMember k.history k.hub k.roll other w
-    was_member = (k.fits other w was_other).member w_role
-
-    half_joins : (j : ℕ) (half : Half T) → HasHalf s.views j half → HasHalf two j half
-    half_joins j half h = half_stays one other w spent at_other (sym w_half) j half
-        (half_stays s.views n v (took_back v w) at refl j half h)
-
-    fits_joined : (j : ℕ) (u : View T) → get_elem? two j ≡ some u → Fits k.history k.states k.cut k.hub
-        (other ∷ k.roll) j u
-    fits_joined j u e = ⊎_elim
-        (λ (t : (j ≡ other) × (spent ≡ u)).
-        subst (λ (y : ℕ × View T). Fits k.history k.states k.cut k.hub (other ∷ k.roll) y.0 y.1)
-        (λ i. (sym t.0 i, t.1 i))
-        (unseen k.history k.states k.cut k.hub (other ∷ k.roll) other Spent (λ r. absurd (spent_is_no_member r))
-        (λ r. absurd (hub_is_not_spent Spent r refl)) (λ _. inl refl)))
-        (λ (t : (j ≢ other) × (get_elem? one j ≡ some u)). ⊎_elim
-        (λ (z : (j ≡ n) × (took_back v w ≡ u)).
-        subst (λ (y : ℕ × View T). Fits k.history k.states k.cut k.hub (other ∷ k.roll) y.0 y.1)
-        (λ i. (sym z.0 i, z.1 i)) hub_fits)
-        (λ (z : (j ≢ n) × (get_elem? s.views j ≡ some u)). other_fits t.0 z.0 (k.fits j u z.1))
-        (at_set s.views n j (took_back v w) u t.1))
-        (at_set one other j spent u e)
-      where
-        hub_fits : Fits k.history k.states k.cut k.hub (other ∷ k.roll) n (took_back v w)
-        hub_fits = let f = k.fits n v at in let h = f.hub_ v_role in record {
-          member = λ r. absurd (no_hub v.role r v_role);
-          hub_ = λ _. record {
-            here = h.here;
-            ends = (was_member.sent, was_member.got, was_member.cut, h.ends);
-            nothing = h.nothing;
-            idle = h.idle;
-          };
-          back = λ r. absurd (hub_is_not_spent v.role v_role r);
-          debt = f.debt;
-          half = f.half;
-          low = f.low;
-          ripe = f.ripe;
-          full = λ on. ⊎_elim f.full (k.fits other w was_other).full (either_over v.sight.full w.sight.full on);
-          cut_ = λ on. ⊎_elim f.cut_ (k.fits other w was_other).cut_ (either_over v.sight.cut w.sight.cut on);
-          empty = f.empty;
-          heard = let g = (k.fits other w was_other).heard in
-              (f.heard.0, f.heard.1, f.heard.2, (f.heard.3.0, f.heard.3.1, (g.3.0, g.3.1, f.heard.3.2)));
-          over = λ on. ⊎_elim f.over (k.fits other w was_other).over (either_over v.over w.over on);
-        }
-
-        other_fits : j ≢ other → j ≢ n → Fits k.history k.states k.cut k.hub k.roll j u
-            → Fits k.history k.states k.cut k.hub (other ∷ k.roll) j u
-        other_fits ne_other ne_hub f = record {
-          member = λ r. let m = f.member r in record {
-            sent = m.sent;
-            got = m.got;
-            cut = m.cut;
-            no_hub = m.no_hub;
-            not_back = λ in_. ⊎_elim (λ q. ne_other q) m.not_back in_;
-          };
-          hub_ = λ r. absurd (ne_hub ((f.hub_ r).here ∙ sym ((k.fits n v at).hub_ v_role).here));
-          back = λ r. let b = f.back r in (inr b.0, b.1, b.2);
-          debt = f.debt;
-          half = f.half;
-          low = f.low;
-          ripe = f.ripe;
-          full = f.full;
-          cut_ = f.cut_;
-          empty = f.empty;
-          heard = f.heard;
-          over = f.over;
-        }
-
-    joined : Keeps record { words = s.words; homes = s.homes; views = two }
-    joined =
-        let many₀ = length_set s.views n (took_back v w) in let many₁ = length_set one other spent in
-        let below = there s.views other w was_other in
-        let a₀ = total_set listed s.views n v (took_back v w) at in let b₀ = total_set listed one other w spent
-        at_other in
-        let a₁ = total_set sleeping s.views n v (took_back v w) at in let b₁ = total_set sleeping one other w
-        spent at_other in
-        let a₂ = total_set owed s.views n v (took_back v w) at in let b₂ = total_set owed one other w spent
-        at_other in
-        let a₃ = total_set closing s.views n v (took_back v w) at in let b₃ = total_set closing one other w spent
-        at_other in
-        let a₄ = total_set member s.views n v (took_back v w) at in let b₄ = total_set member one other w spent
-        at_other in
-        let a₅ = total_set out s.views n v (took_back v w) at in let b₅ = total_set out one other w spent at_other
-        in
-        let w₀ : listed w ≡ 0 = ap (λ (d : Duty). d.fresh + d.asleep + d.leaving) w_duty in
-        let w₁ : sleeping w ≡ 0 = ap (λ (d : Duty). d.asleep) w_duty in
-        let w₂ : owed w ≡ 0 = ap (λ (d : Duty). d.wakes + d.looks + d.fresh + d.closing) w_duty in
-        let w₃ : closing w ≡ 0 = ap (λ (d : Duty). d.closing) w_duty in
-        let w₄ : member w ≡ 1 = ap one_if_member w_role in
-        let w₅ : out w ≡ 0 = ap (λ (r : Role). if_hub r w.out) w_role in
-        let o₀ : out (took_back v w) ≡ v.out - 1 = ap (λ (r : Role). if_hub r (v.out - 1)) v_role in
-        let o₁ : out v ≡ v.out = ap (λ (r : Role). if_hub r v.out) v_role in
-        let mine = below_total member s.views other w was_other in
-        let all = out_of_hub s k n v at v_role in
-        let a₆ = total_set tokens_given s.views n v (took_back v w) at in
-        let b₆ = total_set tokens_given one other w spent at_other in
-        let a₇ = total_set tokens_taken s.views n v (took_back v w) at in
-        let b₇ = total_set tokens_taken one other w spent at_other in
-        let c = k.counted in let o = k.out_ in let g = k.given in
-        record {
-          history = k.history;
-          states = k.states;
-          tokens = k.tokens;
-          waiting = k.waiting;
-          cut = k.cut;
-          words = k.words;
-          narrow = k.narrow;
-          sized = k.sized;
-          small = k.small;
-          within = k.within;
-          cutter = k.cutter;
-          walk = k.walk;
-          walked = k.walked;
-          true_ = k.true_;
-          looked = λ j u e r. ⊎_elim
-              (λ (t : (j ≡ other) × (spent ≡ u)).
-              absurd (spent_is_no_member (ap (λ (y : View T). y.role) t.1 ∙ r)))
-              (λ (t : (j ≢ other) × (get_elem? one j ≡ some u)). ⊎_elim
-              (λ (z : (j ≡ n) × (took_back v w ≡ u)).
-              absurd (no_hub u.role r (ap (λ (y : View T). y.role) (sym z.1) ∙ v_role)))
-              (λ (z : (j ≢ n) × (get_elem? s.views j ≡ some u)). k.looked j u z.1 r)
-              (at_set s.views n j (took_back v w) u t.1))
-              (at_set one other j spent u e);
-          undrawn = k.undrawn;
-          waits = λ i e le e_at. ⊎_elim (λ z. inl (z.0, half_joins e.by (Writes (spot i e.value)) z.1))
-              (λ z. inr z) (k.waits i e le e_at);
-          taken_ = λ i c c_at. let t = k.taken_ i c c_at in
-              (t.0, ⊎_elim (λ z. inl (half_joins c.to (Reads (spot i c.entry.value)) z)) (λ z. inr z) t.1);
-          counted = omega arith;
-          given = omega arith;
-          quiet = ⊎_elim (λ x. inl (omega arith)) (λ x. inr (omega arith)) k.quiet;
-          shut = ⊎_elim (λ x. inl (omega arith)) (λ x. inr (omega arith)) k.shut;
-          hub = k.hub;
-          roll = other ∷ k.roll;
-          idle = k.idle;
-          apart = (was_member.not_back, k.apart);
-          rolled = λ j in_. ⊎_elim (λ q. omega arith) (λ i. let b = k.rolled j i in omega arith) in_;
-          known = let b = k.known in omega arith;
-          out_ = omega arith;
-          newborn = λ j long. k.newborn j (omega arith);
-          fits = fits_joined;
-        }
-
-  pub joins : (n : ℕ) (v : View T) (other : ℕ) (w : View T) → v.role ≡ Issuer → w.role ≡ Member → w.half ≡ Nothing
-      → w.duty ≡ no_duty
-      → Joins Keeps n v other w (took_back v w) spent
-  joins n v other w v_role w_role w_half w_duty s k at apart at_other = joined n v other w v_role w_role w_half
-      w_duty s k at apart at_other

@@ -6,9 +6,8 @@ use Rattle.mb_segment.proofs.Base.{◌+◌, ◌<◌, ◌∙◌, ◌∷◌, ◌�
 use Rattle.mb_segment.specs.Vocabulary.{Account, Below, Claim, Entry, Has, History, IsCut, IsMember, IsOfPass, IsPassOf, Issuer}
 use Rattle.mb_segment.specs.Vocabulary.{Keeps, Member, Rises, Role, Spent, Spot, View, all_entries, drawn, drawn_in}
 use Rattle.mb_segment.specs.Vocabulary.{cuts_by, has_cut, is_of, new_hub, spot, spots_by, spots_to}
-use Rattle.mb_segment.proofs.Totals.{some_view}
+use Rattle.mb_segment.proofs.Totals.{first_is, some_view}
 use Rattle.mb_segment.proofs.Halves.{hub_is_not_spent, no_hub}
-use Rattle.mb_segment.proofs.PassMoves.{first_is}
 use Rattle.mb_segment.proofs.Kept.{St, at0}
 
 pub some_cutter : (c : Option ℕ) → 0 < cuts_by c → (n : ℕ) × (c ≡ Some n)
@@ -70,7 +69,7 @@ module _ {T : Type 0} where
       ⊎_elim (λ (t : (s.at ≡ p) × (s.value ≡ x)). let q = t.0 in omega arith) (has_below m p x ss b.1) h
 
   -- an entry by pass n stands in the list of pass n
-  has_by : (n b : ℕ) (es : List (Entry T)) (m : ℕ) (e : Entry T) → get_elem? es m ≡ some e → e.by ≡ n → (p : ℕ)
+  pub has_by : (n b : ℕ) (es : List (Entry T)) (m : ℕ) (e : Entry T) → get_elem? es m ≡ some e → e.by ≡ n → (p : ℕ)
       → p ≡ b + m → Has p e.value (spots_by n b es)
   has_by n b [] m e at by p is = absurd (some-ne-none e (sym at))
   has_by n b (d ∷ ds) zero e at by p is = let one = some-injective d e at in
@@ -83,7 +82,7 @@ module _ {T : Type 0} where
       go h true = inr h
       go h false = h
 
-  has_to : (n b : ℕ) (cs : List (Claim T)) (m : ℕ) (c : Claim T) → get_elem? cs m ≡ some c → c.to ≡ n → (p : ℕ)
+  pub has_to : (n b : ℕ) (cs : List (Claim T)) (m : ℕ) (c : Claim T) → get_elem? cs m ≡ some c → c.to ≡ n → (p : ℕ)
       → p ≡ b + m → Has p c.entry.value (spots_to n b cs)
   has_to n b [] m c at to p is = absurd (some-ne-none c (sym at))
   has_to n b (d ∷ ds) zero c at to p is = let one = some-injective d c at in

@@ -2,7 +2,7 @@
 use Rattle.mb_segment.proofs.Base.{List, [], ap, arith, get_elem?, inl, inr, length, refl, slice_set, some}
 use Rattle.mb_segment.proofs.Base.{some-injective, some-ne-none, suc, sym, zero, ℕ, ⊎_elim, ◌++◌, ◌+◌, ◌<◌}
 use Rattle.mb_segment.proofs.Base.{◌∷◌, ◌≡◌, ◌≢◌, ◌≤◌, ◌⊎◌}
-use Rattle.mb_segment.specs.Vocabulary.{View, listed, sleeping, total}
+use Rattle.mb_segment.specs.Vocabulary.{View, listed, new_hub, sleeping, total}
 
 module _ {T : Type 0} where
   pub total_set : (f : View T → ℕ) (views : List (View T)) (n : ℕ) (v w : View T) → get_elem? views n ≡ some v
@@ -57,6 +57,10 @@ module _ {T : Type 0} where
   there [] n v at = absurd (some-ne-none v (sym at))
   there (x ∷ xs) zero v at = omega arith
   there (x ∷ xs) (suc n) v at = let r = there xs n v at in omega arith
+
+  pub first_is : (n : ℕ) (v : View T) → get_elem? (new_hub ∷ []) n ≡ some v → (0 ≡ n) × (new_hub ≡ v)
+  first_is zero v at = (refl, some-injective new_hub v at)
+  first_is (suc n) v at = absurd (some-ne-none v (sym at))
 
   pub some_view : (views : List (View T)) (n : ℕ) → n < length views → (v : View T) × (get_elem? views n ≡ some v)
   some_view [] n lt = absurd (omega arith)

@@ -15,6 +15,7 @@ pub mod Seats
 pub mod Answers
 pub mod Waiting
 pub mod Ending
+pub mod Fates
 pub mod Vocabulary
 pub mod SegmentSamples
 -- the names that clauses use, also for the crates above

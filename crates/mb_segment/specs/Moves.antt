@@ -1,6 +1,6 @@
 -- How a step changes a view.
 use Rattle.std.specs.Prelude.{Bool, List, None, Option, Some, [], false, max, suc, true, ℕ, ◌+◌, ◌++◌, ◌-◌, ◌<◌, ◌∷◌, ◌||◌, ◌≡◌, ◌≤◌}
-use Rattle.mb_segment.specs.Types.{Duty, Event, Nothing, Reads, Spot, View, Writes}
+use Rattle.mb_segment.specs.Types.{Duty, Event, Nothing, Reads, View, Writes}
 use Rattle.mb_segment.specs.History.{spot}
 use Rattle.mb_segment.specs.Passes.{blank, blind, no_tokens}
 use Rattle.mb_segment.specs.Heard.{Below}

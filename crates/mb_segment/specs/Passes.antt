@@ -19,6 +19,13 @@ Match h (n ∷ ns) [] = ⊥
 Match h (n ∷ ns) (a ∷ rest) =
     (a.sent ≡ sent_by n h) × (a.got ≡ got_by n h) × (a.cut ≡ has_cut n h) × Match h ns rest
 
+-- these accounts have the names of the passes of these numbers
+abbrev pub Called : {T : Type 0} → (ℕ → ℕ) → List ℕ → List (Account T) → Type 0
+Called names [] [] = Unit {0}
+Called names [] (a ∷ rest) = ⊥
+Called names (n ∷ ns) [] = ⊥
+Called names (n ∷ ns) (a ∷ rest) = (a.name ≡ names n) × Called names ns rest
+
 -- a pass that is out counts as one, and the hub knows how many are out
 abbrev pub one_if_member : Role → ℕ
 one_if_member Issuer = 0
@@ -47,7 +54,7 @@ abbrev pub blind : Sight
 blind = record { low = 0; ripe = None; full = false; cut = false; empty = 0; found = 0; walk = [] }
 
 abbrev pub nothing_done : {T : Type 0} → Account T
-nothing_done = record { sent = []; got = []; cut = false; sent_knew = []; got_knew = [] }
+nothing_done = record { name = 0; sent = []; got = []; cut = false; sent_knew = []; got_knew = [] }
 
 abbrev pub ignorant : Known
 ignorant = record { drawn = 0; taken = 0 }
@@ -66,6 +73,10 @@ blank = record {
   out = 0;
   ends = [];
 }
+
+-- the same, with a name
+abbrev pub named : {T : Type 0} → ℕ → View T
+named name = record blank { account = record nothing_done { name = name } }
 
 -- the hub of a new segment
 abbrev pub new_hub : {T : Type 0} → View T

@@ -9,7 +9,7 @@ use Rattle.atomic_table.specs.Table.{State}
 use Rattle.mb_segment.specs.Types.{Event, FoundEmpty, Issuer, Member, Nothing, Sight, Spent, View}
 use Rattle.mb_segment.specs.History.{History, cuts_by, drawn, got_by, has_cut, sent_by, taken}
 use Rattle.mb_segment.specs.Walk.{AreTrue, GoesOn, draws, times_empty, waiting_after}
-use Rattle.mb_segment.specs.Passes.{Distinct, In, Match, member, no_duty, out}
+use Rattle.mb_segment.specs.Passes.{Called, Distinct, In, Match, member, no_duty, out}
 use Rattle.mb_segment.specs.Heard.{Heard}
 use Rattle.mb_segment.specs.Sleeping.{Quiet, Shut, closing, free, listed, owed, sleeping, tokens_given, tokens_taken, total}
 use Rattle.mb_segment.specs.Slots.{HalfFits, Taken, Undrawn, Waiting, row}
@@ -28,6 +28,10 @@ pub record IsHub {T : Type 0} (h : History T) (hub : ℕ) (roll : List ℕ) (n :
   pub ends : Match h roll v.ends
   pub nothing : v.half ≡ Nothing
   pub idle : v.account.sent ≡ []
+
+-- a pass that is out has its name, and the hub has those of the passes that came back
+abbrev pub IsCalled : {T : Type 0} → (ℕ → ℕ) → List ℕ → ℕ → View T → Type 0
+IsCalled names roll n v = (v.role ≡ Member → v.account.name ≡ names n) × (v.role ≡ Issuer → Called names roll v.ends)
 
 -- the looks of pass n in the walk are as many as it counted. The last of them stands on the walk that it saw
 abbrev pub HasLooked : List Event → ℕ → Sight → Type 0
@@ -68,10 +72,12 @@ pub record Keeps {T : Type 0} (s : State (Option T) (View T)) : Type 0 where
   pub walked : (draws walk ≡ drawn history) × (waiting_after walk ≡ length history.rest)
   pub true_ : AreTrue (length states) walk
   pub looked : (n : ℕ) (v : View T) → get_elem? s.views n ≡ some v → v.role ≡ Member → HasLooked walk n v.sight
-  -- what each position holds
+  -- the name of each pass, 0 if it has none, and what each position holds
+  pub names : ℕ → ℕ
+  pub short : (n : ℕ) → names n < 4294967295
   pub undrawn : Undrawn history states s.homes
-  pub waits : Waiting history s.views states s.homes
-  pub taken_ : Taken history s.views states s.homes
+  pub waits : Waiting names history s.views states s.homes
+  pub taken_ : Taken names history s.views states s.homes
   -- the list counts its members, and both laws of sleep hold
   pub counted : total listed s.views ≡ tokens + waiting
   -- each token that was given is still there, or was taken
@@ -90,4 +96,5 @@ pub record Keeps {T : Type 0} (s : State (Option T) (View T)) : Type 0 where
   pub newborn : (n : ℕ) → length s.views ≤ n
       → (sent_by n history ≡ []) × (got_by n history ≡ []) × (has_cut n history ≡ false)
       × (times_empty n walk ≡ 0)
+  pub called : (n : ℕ) (v : View T) → get_elem? s.views n ≡ some v → IsCalled names roll n v
   pub fits : (n : ℕ) (v : View T) → get_elem? s.views n ≡ some v → Fits history states cut hub roll n v

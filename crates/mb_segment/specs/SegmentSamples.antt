@@ -1,6 +1,7 @@
 -- Segments of numbers: some that the definitions admit, and some that they refuse. Pass 1 sends, pass 2 receives.
-use Rattle.std.specs.Prelude.{Bool, List, None, Some, [], false, map, true, ℕ, ◌∷◌}
+use Rattle.std.specs.Prelude.{Bool, List, None, Option, Some, [], false, map, suc, true, ℕ, ◌∷◌}
 use mathlib.Core.Option.{some}
+use Rattle.mb_segment.specs.declared.left.Fate.{Fate}
 use Rattle.mb_segment.specs.Types.{Account, Claimed, Drew, Event, FoundEmpty, FoundFull, Spot, View}
 use Rattle.mb_segment.specs.History.{Claim, Entry, History, spot}
 use Rattle.mb_segment.specs.Passes.{blank, new_hub, no_duty}
@@ -20,7 +21,7 @@ abbrev pub history : History ℕ
 history = record { claims = claim 1 10 2 ∷ []; rest = entry 1 11 ∷ []; cutter = Some 1 }
 
 abbrev pub account : List (Spot ℕ) → List (Spot ℕ) → Bool → Account ℕ
-account s g c = record { sent = s; got = g; cut = c; sent_knew = map (λ p. 0) s; got_knew = map (λ p. 0) g }
+account s g c = record { name = 0; sent = s; got = g; cut = c; sent_knew = map (λ p. 0) s; got_knew = map (λ p. 0) g }
 
 -- two positions in the wrong order
 abbrev pub falling : List (Spot ℕ)
@@ -38,6 +39,13 @@ receiver = account [] (spot 0 10 ∷ []) false
 
 abbrev pub cutter : Account ℕ
 cutter = account [] [] true
+
+-- the sender has the name 7, and the receiver the name 8
+abbrev pub with_names : List (Account ℕ)
+with_names = record sender { name = 7 } ∷ record receiver { name = 8 } ∷ []
+
+abbrev pub fate : Option ℕ → Option ℕ → Fate
+fate s r = record { sender = s; receiver = r }
 
 abbrev pub view : Account ℕ → View ℕ
 view a = record blank { account = a }
@@ -67,6 +75,14 @@ overslept = record {
   words = row 1 0 4294967296 (1 ∷ 0 ∷ []);
   homes = some (Some 10) ∷ some None ∷ [];
   views = record new_hub { out = 2 } ∷ saw 0 ∷ sleeper ∷ [];
+}
+
+-- one position, which pass 1 sent to. It has no name, and the state has this one
+abbrev pub marked_as : ℕ → SegmentState ℕ
+marked_as name = record {
+  words = row 1 0 0 (suc name ∷ []);
+  homes = some (Some 10) ∷ [];
+  views = record new_hub { out = 1 } ∷ view (account (spot 0 10 ∷ []) [] false) ∷ [];
 }
 
 -- there is no position, pass 1 sleeps without a token, and nobody owes anything

@@ -1,5 +1,7 @@
--- What each position's state word and slot hold. A state is 0, and 1 once the position is marked.
-use Rattle.std.specs.Prelude.{List, None, Option, Some, length, ℕ, ◌<◌, ◌∷◌, ◌≡◌, ◌≤◌, ◌⊎◌}
+-- What each position's state word and slot hold. `names` has the name of each pass, 0 if it has none. A state is 0 until
+-- the position is marked. Then it is 1 more than the name of the pass that marked it. A pass that reads the value adds
+-- 2^32 times its own name.
+use Rattle.std.specs.Prelude.{List, None, Option, Some, length, ℕ, ◌*◌, ◌+◌, ◌<◌, ◌∷◌, ◌≡◌, ◌≤◌, ◌⊎◌}
 use mathlib.Core.Option.{some}
 use mathlib.Core.Option as maybe
 use lib.ListN.{get_elem?}
@@ -28,25 +30,28 @@ Undrawn h states homes = (k : ℕ) → drawn h ≤ k → k < length states
     → (get_elem? states k ≡ some 0) × (get_elem? homes k ≡ some (some None))
 
 -- a position drawn and not claimed: its drawer is still to mark it; or it is marked, and the slot has the entry's value
-abbrev pub Waits : {T : Type 0} → List (View T) → List ℕ → Homes T → ℕ → Entry T → Type 0
-Waits views states homes k e =
+abbrev pub Waits : {T : Type 0} → (ℕ → ℕ) → List (View T) → List ℕ → Homes T → ℕ → Entry T → Type 0
+Waits names views states homes k e =
     ((get_elem? states k ≡ some 0) × HasHalf views e.by (Writes (spot k e.value)))
-    ⊎ ((get_elem? states k ≡ some 1) × (get_elem? homes k ≡ some (some (Some e.value))))
+    ⊎ ((get_elem? states k ≡ some (names e.by + 1)) × (get_elem? homes k ≡ some (some (Some e.value))))
 
-abbrev pub Waiting : {T : Type 0} → History T → List (View T) → List ℕ → Homes T → Type 0
-Waiting {T} h views states homes = (k : ℕ) (e : Entry T) → taken h ≤ k → get_elem? (all_entries h) k ≡ some e
-    → Waits views states homes k e
+abbrev pub Waiting : {T : Type 0} → (ℕ → ℕ) → History T → List (View T) → List ℕ → Homes T → Type 0
+Waiting {T} names h views states homes = (k : ℕ) (e : Entry T) → taken h ≤ k → get_elem? (all_entries h) k ≡ some e
+    → Waits names views states homes k e
 
 -- a position claimed: it is marked. Its claimer is still to read the entry's value; or it is read, and the slot is empty
-abbrev pub IsTaken : {T : Type 0} → List (View T) → List ℕ → Homes T → ℕ → Claim T → Type 0
-IsTaken views states homes k c = (get_elem? states k ≡ some 1)
-    × (HasHalf views c.to (Reads (spot k c.entry.value)) ⊎ (get_elem? homes k ≡ some (some None)))
+abbrev pub IsTaken : {T : Type 0} → (ℕ → ℕ) → List (View T) → List ℕ → Homes T → ℕ → Claim T → Type 0
+IsTaken names views states homes k c =
+    ((get_elem? states k ≡ some (names c.entry.by + 1)) × HasHalf views c.to (Reads (spot k c.entry.value)))
+    ⊎ ((get_elem? states k ≡ some (names c.entry.by + 1 + 4294967296 * names c.to))
+    × (get_elem? homes k ≡ some (some None)))
 
-abbrev pub Taken : {T : Type 0} → History T → List (View T) → List ℕ → Homes T → Type 0
-Taken {T} h views states homes = (k : ℕ) (c : Claim T) → get_elem? h.claims k ≡ some c
-    → IsTaken views states homes k c
+abbrev pub Taken : {T : Type 0} → (ℕ → ℕ) → History T → List (View T) → List ℕ → Homes T → Type 0
+Taken {T} names h views states homes = (k : ℕ) (c : Claim T) → get_elem? h.claims k ≡ some c
+    → IsTaken names views states homes k c
 
--- what a pass has begun is so: it drew the position, which is not marked; or it claimed it, which is marked
+-- what a pass has begun is so: it drew the position, which is not marked; or it claimed it, which is marked, and whose
+-- state names no reader
 abbrev pub HalfFits : {T : Type 0} → History T → List ℕ → ℕ → Half T → Type 0
 HalfFits h states n Nothing = Unit {0}
 HalfFits h states n (Writes s) =
@@ -54,4 +59,4 @@ HalfFits h states n (Writes s) =
     × (get_elem? states s.at ≡ some 0)
 HalfFits h states n (Reads s) =
     ((by : ℕ) × (get_elem? h.claims s.at ≡ some record { entry = record { by = by; value = s.value }; to = n }))
-    × (get_elem? states s.at ≡ some 1)
+    × ((w : ℕ) × (get_elem? states s.at ≡ some w) × (0 < w) × (w < 4294967296))

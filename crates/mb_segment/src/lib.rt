@@ -55,7 +55,7 @@ mod words;
 
 pub use answers::{Cut, Draw, Leave, Look, Rest, Wake};
 pub use idle::Idle;
-pub use left::Left;
+pub use left::{Fate, Left};
 pub use pauses::pause;
 pub use segment::{Hub, Pass, Segment};
 pub use view::{Account, Duty, Event, Half, Known, Role, Sight, Spot, Tokens, View};

@@ -8,7 +8,7 @@ use crate::answers::{Leave, Look, Rest};
 use crate::list::{LIST, LISTED};
 use crate::rule::Ends;
 use crate::segment::{Pass, Segment};
-use crate::words::CUT;
+use crate::words::{CUT, state_of};
 use std::alloc::Allocator;
 use std::marker::Brand;
 
@@ -116,21 +116,29 @@ impl<T: Drop, A: Allocator + Drop> Segment<T, A> {
         self.claim_listed_from(pass, at, at + 1) == at
     }
 
-    /// Takes the value of the position that the pass claimed. It is the one that was sent there. One access.
-    pub fn read(&self, pass: &mut Pass<T>, at: u64) -> T
+    /// Takes the value of the position that the pass claimed. It is the one that was sent there. A pass that has a name
+    /// adds it to the state. One access.
+    pub fn read(&self, pass: &mut Pass<T>, at: u64, name: u32) -> T
         requires segment { pass.old.seat.table_id ≡ self.now.table.shared.table_id }
         requires member { (view_in pass.old).role ≡ Member }
         requires claimed { (x : T) × ((view_in pass.old).half ≡ Reads (spot at x))
             × (held_by pass.old ≡ (at, Some x) ∷ []) }
         requires within { at < self.now.size }
+        requires name { (view_in pass.old).account.name ≡ name }
         ensures pass { IsStill pass.old pass.new }
         ensures value { (view_in pass.old).half ≡ Reads (spot at result) }
         ensures read { view_in pass.new ≡ ended (view_in pass.old) }
         ensures held { held_by pass.new ≡ [] }
     {
         let value = pass.seat.slot_mut(&self.table.shared, at as usize).take();
-        // Nobody uses the slot again, so a load gives it back. A store would take the states' line from the senders.
-        self.table.shared.load::<Ends>(&mut pass.seat, LIST);
+        if name == 0 {
+            // Nobody uses the slot again, so a load gives it back. A store would take the states' line from the senders.
+            self.table.shared.load::<Ends>(&mut pass.seat, LIST);
+        } else {
+            self.table
+                .shared
+                .fetch_add::<Ends>(&mut pass.seat, state_of(at), name as u64 * LISTED);
+        }
         match value {
             Some(value) => value,
             None => unreachable!(),

@@ -40,6 +40,17 @@ impl Position for Brand {
     ghost position = { 0 };
 }
 
+/// A name that a proof picks where a pass is issued.
+pub trait Name {
+    ghost use Rattle.std.specs.Prelude.{ℕ};
+
+    ghost name: { ℕ };
+}
+
+impl Name for Brand {
+    ghost name = { 0 };
+}
+
 /// What a step does to the duty of its pass.
 pub trait Effect {
     ghost use Rattle.mb_segment.specs.declared.view.Duty.{Duty};
@@ -69,7 +80,7 @@ impl<T, F: Effect> Play<Option<T>, View<T>> for Claims<F> {
     ghost then = { claiming F.of };
 }
 
-/// The store that marks a position, and the load that gives the slot of a claimed one back.
+/// The store that marks a position, and the load or sum that gives the slot of a claimed one back.
 pub struct Ends;
 
 impl<T> Play<Option<T>, View<T>> for Ends {
@@ -213,19 +224,24 @@ impl<T, F: Effect> Play<Option<T>, View<T>> for NoneWaits<F> {
     ghost then = { if_none_waits F.of };
 }
 
-/// The hub issues a pass, and takes it back.
-pub struct Passes;
+/// The hub issues a pass.
+pub struct Issues<N> {
+    of: PhantomData<N>,
+}
 
-impl<T> Split<View<T>> for Passes {
+impl<T, N: Name> Split<View<T>> for Issues<N> {
     ghost use Rattle.mb_segment.specs.Moves.{issued};
-    ghost use Rattle.mb_segment.specs.Passes.{blank};
+    ghost use Rattle.mb_segment.specs.Passes.{named};
 
     ghost left = { issued };
 
-    ghost right = { λ _. blank };
+    ghost right = { λ _. named N.name };
 }
 
-impl<T> Join<View<T>> for Passes {
+/// The hub takes a pass back.
+pub struct TakesBack;
+
+impl<T> Join<View<T>> for TakesBack {
     ghost use Rattle.mb_segment.specs.Moves.{took_back};
     ghost use Rattle.mb_segment.specs.Passes.{spent};
 

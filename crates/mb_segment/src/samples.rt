@@ -1,11 +1,11 @@
 //! Samples of the definitions: what they admit, and what only looks right. The functions compute nothing: their
 //! contracts are the samples.
-ghost use Rattle.std.specs.Prelude.{List, [], ℕ, ◌∷◌, ◌≡◌};
+ghost use Rattle.std.specs.Prelude.{List, None, Some, [], ℕ, ◌∷◌, ◌≡◌};
 ghost use Rattle.mb_segment.specs.{Heeds, IsCalm, IsCut, IsOver, IsWhole, Keeps, MaySend, MayTake, Rises, SawAllTaken};
 ghost use Rattle.mb_segment.specs.{AreTrue, Claimed, Drew, FindsEmpty, FoundFull, GoesOn, blank, draws, sent_by, times_empty, times_full};
-ghost use Rattle.mb_segment.specs.{drawn_in, got_by, learns_drawn, learns_taken, owes_wake, waiting_after, with_duty};
-ghost use Rattle.mb_segment.specs.SegmentSamples.{cutter, falling, foreknown, forgotten, giver, history, knowing, overslept};
-ghost use Rattle.mb_segment.specs.SegmentSamples.{false_walk, full_walk, looked_after, walk};
+ghost use Rattle.mb_segment.specs.{OfFate, drawn_in, fate_of, got_by, learns_drawn, learns_taken, owes_wake, waiting_after, with_duty};
+ghost use Rattle.mb_segment.specs.SegmentSamples.{cutter, falling, fate, foreknown, forgotten, giver, history, knowing, overslept};
+ghost use Rattle.mb_segment.specs.SegmentSamples.{false_walk, full_walk, looked_after, marked_as, walk, with_names};
 ghost use Rattle.mb_segment.specs.SegmentSamples.{receiver, saw, sender, taken, unpaid, unused, view, woken};
 
 /// The end. Two accounts and what is left of one history are admitted. Refused: a value that two received, two that cut,
@@ -17,15 +17,31 @@ pub fn sample_ends()
     ensures unheeded { (left : List ℕ) → IsWhole (foreknown ∷ receiver ∷ []) left → ⊥ }
 {}
 
+/// Fates. Admitted: the names of who sent a value and who received it, of a value that waits the sender's name alone, and
+/// none where nothing was sent. Refused: the two names swapped, a receiver of a value that waits, none of a value that was
+/// sent, and one where nothing was sent.
+pub fn sample_fates()
+    ensures received { OfFate with_names 0 (Some (fate (Some 7) (Some 8))) }
+    ensures swapped { OfFate with_names 0 (Some (fate (Some 8) (Some 7))) → ⊥ }
+    ensures waits { OfFate with_names 1 (Some (fate (Some 7) None)) }
+    ensures from_nowhere { OfFate with_names 1 (Some (fate (Some 7) (Some 8))) → ⊥ }
+    ensures unsent { OfFate with_names 2 None × (OfFate with_names 1 None → ⊥) }
+    ensures made_up { OfFate with_names 2 (Some (fate (Some 7) None)) → ⊥ }
+    ensures states { (fate_of 34359738376 ≡ Some (fate (Some 7) (Some 8)))
+        × (fate_of 1 ≡ Some (fate None None)) × (fate_of 0 ≡ None) }
+{}
+
 /// The rule. A new segment is admitted, and one with a token that a pass gave, taken or not. Refused: a token that nobody
-/// gave, taken or not, a segment that is cut before a pass is issued, one whose hub owes a wake, and two in which a
-/// receiver sleeps and nobody owes anything. In one of these a value waits, in the other no more will be drawn.
+/// gave, taken or not, a segment that is cut before a pass is issued, one whose hub owes a wake, a state with a name that
+/// its sender does not have, and two segments in which a receiver sleeps and nobody owes anything. In one of these a value
+/// waits, in the other no more will be drawn.
 pub fn sample_states()
     ensures new { Keeps (unused 0) }
     ensures cut { Keeps (unused 9223372036854775808) → ⊥ }
     ensures overslept { Keeps overslept → ⊥ }
     ensures forgotten { Keeps forgotten → ⊥ }
     ensures unpaid { Keeps unpaid → ⊥ }
+    ensures misnamed { Keeps (marked_as 7) → ⊥ }
     ensures given { Keeps (woken giver) }
     ensures from_nobody { Keeps (woken blank) → ⊥ }
     ensures taken { Keeps (taken giver) }

@@ -1,13 +1,14 @@
 //! A segment, its hub and its passes.
 ghost use Rattle.std.specs.Prelude.{[], IfOk, ◌+◌, ◌<◌, ◌≡◌, ◌≤◌};
-ghost use Rattle.mb_segment.specs.{IsFree, Issuer, blank, hub_view, issued, learns_drawn, learns_taken};
-ghost use Rattle.mb_segment.specs.{new_hub, took_back, view_in};
+ghost use Rattle.mb_segment.specs.{IsFree, Issuer, hub_view, issued, learns_drawn, learns_taken};
+ghost use Rattle.mb_segment.specs.{named, new_hub, took_back, view_in};
 
-use crate::rule::{LearnsDrawn, LearnsTaken, Passes, SegmentRule};
+use crate::rule::{Issues, LearnsDrawn, LearnsTaken, Name, SegmentRule, TakesBack};
 use crate::view::View;
 use crate::words::{CUT, DRAWN, STATES, TAKEN};
 use atomic_table::{Seat, Table};
 use std::alloc::{AllocError, Allocator, Global};
+use std::marker::Brand;
 
 /// A row of positions. Senders put values in, in one order, and receivers take them from the front.
 #[derive(Drop)]
@@ -59,17 +60,32 @@ impl<T: Drop, A: Allocator + Drop> Segment<T, A> {
         self.size
     }
 
-    /// A pass that did nothing.
-    pub fn issue(&self, hub: &mut Hub<T>) -> Pass<T>
+    /// A pass that did nothing, with a name. 0: it has none.
+    pub fn issue(&self, hub: &mut Hub<T>, name: u32) -> Pass<T>
         requires segment { hub.old.seat.table_id ≡ self.now.table.shared.table_id }
         requires hub { (hub_view hub.old).role ≡ Issuer }
+        requires name { name < 4294967295 }
         ensures segment { hub.new.seat.table_id ≡ hub.old.seat.table_id }
         ensures hub { hub_view hub.new ≡ issued (hub_view hub.old) }
-        ensures pass { (result.seat.table_id ≡ hub.old.seat.table_id) × (view_in result ≡ blank)
-            × IsFree result }
+        ensures pass { (result.seat.table_id ≡ hub.old.seat.table_id)
+            × (view_in result ≡ named name) × IsFree result }
     {
+        self.issue_named::<Brand>(hub, name)
+    }
+
+    fn issue_named<N: Name>(&self, hub: &mut Hub<T>, name: u32) -> Pass<T>
+        requires segment { hub.old.seat.table_id ≡ self.now.table.shared.table_id }
+        requires hub { (hub_view hub.old).role ≡ Issuer }
+        requires picked { N.name ≡ name }
+        requires name { name < 4294967295 }
+        ensures segment { hub.new.seat.table_id ≡ hub.old.seat.table_id }
+        ensures hub { hub_view hub.new ≡ issued (hub_view hub.old) }
+        ensures pass { (result.seat.table_id ≡ hub.old.seat.table_id)
+            × (view_in result ≡ named name) × IsFree result }
+    {
+        let _ = name;
         Pass {
-            seat: self.table.shared.split_seat::<Passes>(&mut hub.seat),
+            seat: self.table.shared.split_seat::<Issues<N>>(&mut hub.seat),
         }
     }
 
@@ -83,7 +99,9 @@ impl<T: Drop, A: Allocator + Drop> Segment<T, A> {
         ensures hub { hub_view hub.new ≡ took_back (hub_view hub.old) (view_in pass) }
     {
         let Pass { seat } = pass;
-        self.table.shared.join_seat::<Passes>(&mut hub.seat, seat);
+        self.table
+            .shared
+            .join_seat::<TakesBack>(&mut hub.seat, seat);
     }
 
     /// The hub looks how many positions are drawn, and learns of them. One access.

@@ -66,13 +66,14 @@ impl<T: Drop, A: Allocator + Drop> Segment<T, A> {
         }
     }
 
-    /// Writes the value that the position was drawn for, and marks the position. One access.
-    pub fn mark(&self, pass: &mut Pass<T>, at: u64, value: T)
+    /// Writes the value that the position was drawn for, and marks the position, with the name of the pass. One access.
+    pub fn mark(&self, pass: &mut Pass<T>, at: u64, value: T, name: u32)
         requires segment { pass.old.seat.table_id ≡ self.now.table.shared.table_id }
         requires member { (view_in pass.old).role ≡ Member }
         requires drawn { (view_in pass.old).half ≡ Writes (spot at value) }
         requires within { at < self.now.size }
         requires held { held_by pass.old ≡ (at, None) ∷ [] }
+        requires name { (view_in pass.old).account.name ≡ name }
         ensures pass { IsStill pass.old pass.new }
         ensures marked { view_in pass.new ≡ ended (view_in pass.old) }
         ensures held { held_by pass.new ≡ [] }
@@ -80,7 +81,7 @@ impl<T: Drop, A: Allocator + Drop> Segment<T, A> {
         *pass.seat.slot_mut(&self.table.shared, at as usize) = Some(value);
         self.table
             .shared
-            .store::<Ends>(&mut pass.seat, state_of(at), 1);
+            .store::<Ends>(&mut pass.seat, state_of(at), name as u64 + 1);
     }
 
     /// Pays one wake that is owed: gives a token to one that waits, or finds that nobody does. [`Wake::One`] is the answer

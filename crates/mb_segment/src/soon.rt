@@ -14,9 +14,10 @@ const LOOKS: u32 = 10;
 
 impl<T: Drop, A: Allocator + Drop> Segment<T, A> {
     /// Looks a few times before it answers that no value is there, since a sleep and its wake cost more than that.
-    pub(crate) fn find_soon<R: Wait>(&self, rt: &R, pass: &mut Pass<T>) -> Found<T>
+    pub(crate) fn find_soon<R: Wait>(&self, rt: &R, pass: &mut Pass<T>, name: u32) -> Found<T>
         requires segment { pass.old.seat.table_id ≡ self.now.table.shared.table_id }
         requires free { IsFree pass.old }
+        requires name { (view_in pass.old).account.name ≡ name }
         ensures pass { IsStill pass.old pass.new }
         ensures held { held_by pass.new ≡ [] }
         ensures mark { marked_to (view_in pass.old) ≤ marked_to (view_in pass.new) }
@@ -29,12 +30,12 @@ impl<T: Drop, A: Allocator + Drop> Segment<T, A> {
             (bare (view_in pass.new) ≡ told (calm (view_in pass.old))) }
     {
         for look in 0..LOOKS {
-            match self.find(rt, pass) {
+            match self.find(rt, pass, name) {
                 Found::Value(value) => return Found::Value(value),
                 Found::Over => return Found::Over,
                 Found::Empty => pause(look),
             }
         }
-        self.find(rt, pass)
+        self.find(rt, pass, name)
     }
 }

@@ -9,6 +9,8 @@ pub struct Spot<T> {
 
 /// What a pass sent and what it received, each in the order of the positions, and whether it cut the segment.
 pub struct Account<T> {
+    /// The name of the pass, which the states of the positions tell. 0: it has none, as in a ring.
+    pub name: u64,
     pub sent: LinkedList<Spot<T>>,
     pub got: LinkedList<Spot<T>>,
     pub cut: bool,

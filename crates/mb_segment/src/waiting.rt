@@ -82,9 +82,16 @@ impl<T: Drop, A: Allocator + Drop> Segment<T, A> {
 
     /// Sends a value, and wakes a receiver for it. The error gives the value back. A pass that was told that the segment
     /// is full, cut or done sends no more.
-    pub fn send<R: Wait>(&self, rt: &R, pass: &mut Pass<T>, value: T) -> Result<(), NotSent<T>>
+    pub fn send<R: Wait>(
+        &self,
+        rt: &R,
+        pass: &mut Pass<T>,
+        value: T,
+        name: u32,
+    ) -> Result<(), NotSent<T>>
         requires segment { pass.old.seat.table_id ≡ self.now.table.shared.table_id }
         requires free { IsFree pass.old }
+        requires name { (view_in pass.old).account.name ≡ name }
         ensures pass { IsStill pass.old pass.new }
         ensures sent { IfOk result (λ _. (at : ℕ)
             × (bare (view_in pass.new) ≡ sent_at at value (calm (view_in pass.old)))
@@ -99,7 +106,7 @@ impl<T: Drop, A: Allocator + Drop> Segment<T, A> {
         for _ in rt.forever() {
             match self.draw(pass, &value) {
                 Draw::At(at) => {
-                    self.mark(pass, at, value);
+                    self.mark(pass, at, value, name);
                     if at + 1 < self.size {
                         self.pay(rt, pass);
                     } else {
@@ -137,8 +144,9 @@ impl<T: Drop, A: Allocator + Drop> Segment<T, A> {
     }
 
     /// Takes the first value, or finds that none is there. Yields while the next position is drawn and not marked.
-    pub(crate) fn find<R: Wait>(&self, rt: &R, pass: &mut Pass<T>) -> Found<T>
+    pub(crate) fn find<R: Wait>(&self, rt: &R, pass: &mut Pass<T>, name: u32) -> Found<T>
         requires segment { pass.old.seat.table_id ≡ self.now.table.shared.table_id }
+        requires name { (view_in pass.old).account.name ≡ name }
         requires member { (view_in pass.old).role ≡ Member }
         requires idle { ((view_in pass.old).half ≡ Nothing) × (held_by pass.old ≡ []) }
         ensures pass { IsStill pass.old pass.new }
@@ -158,7 +166,7 @@ impl<T: Drop, A: Allocator + Drop> Segment<T, A> {
             match self.look(pass) {
                 Look::Ready(at) => {
                     if self.claim(pass, at) {
-                        return Found::Value(self.read(pass, at));
+                        return Found::Value(self.read(pass, at, name));
                     }
                     stand_back();
                 }
@@ -171,8 +179,9 @@ impl<T: Drop, A: Allocator + Drop> Segment<T, A> {
     }
 
     /// The same for one in the list. It sleeps from then on if nothing is there yet, and else is about to leave.
-    fn find_listed<R: Wait>(&self, rt: &R, pass: &mut Pass<T>) -> Found<T>
+    fn find_listed<R: Wait>(&self, rt: &R, pass: &mut Pass<T>, name: u32) -> Found<T>
         requires segment { pass.old.seat.table_id ≡ self.now.table.shared.table_id }
+        requires name { (view_in pass.old).account.name ≡ name }
         requires member { (view_in pass.old).role ≡ Member }
         requires fresh { 0 < (view_in pass.old).duty.fresh }
         requires idle { ((view_in pass.old).half ≡ Nothing) × (held_by pass.old ≡ []) }
@@ -193,7 +202,7 @@ impl<T: Drop, A: Allocator + Drop> Segment<T, A> {
             match self.look_listed(pass) {
                 Look::Ready(at) => {
                     if self.claim_listed(pass, at) {
-                        return Found::Value(self.read(pass, at));
+                        return Found::Value(self.read(pass, at, name));
                     }
                 }
                 Look::Yield => yield_now(),
@@ -286,9 +295,10 @@ impl<T: Drop, A: Allocator + Drop> Segment<T, A> {
 
     /// Receives the first value, and sleeps until there is one. `None` only if none can come any more, and no
     /// later call gives a value then.
-    pub fn receive<R: Wait>(&self, rt: &R, pass: &mut Pass<T>) -> Option<T>
+    pub fn receive<R: Wait>(&self, rt: &R, pass: &mut Pass<T>, name: u32) -> Option<T>
         requires segment { pass.old.seat.table_id ≡ self.now.table.shared.table_id }
         requires free { IsFree pass.old }
+        requires name { (view_in pass.old).account.name ≡ name }
         ensures pass { IsStill pass.old pass.new }
         ensures received { IfSome result (λ x. (at : ℕ)
             × (bare (view_in pass.new) ≡ got_at at x (calm (view_in pass.old)))
@@ -299,13 +309,13 @@ impl<T: Drop, A: Allocator + Drop> Segment<T, A> {
         ensures free { IsFree pass.new }
     {
         for _ in rt.forever() {
-            match self.find_soon(rt, pass) {
+            match self.find_soon(rt, pass, name) {
                 Found::Value(value) => return Some(value),
                 Found::Over => return None,
                 Found::Empty => {}
             }
             self.enter_list(rt, pass);
-            match self.find_listed(rt, pass) {
+            match self.find_listed(rt, pass, name) {
                 Found::Value(value) => {
                     self.leave_list(rt, pass);
                     return Some(value);
@@ -317,7 +327,7 @@ impl<T: Drop, A: Allocator + Drop> Segment<T, A> {
                 Found::Empty => {}
             }
             self.sleep(rt, pass);
-            match self.find(rt, pass) {
+            match self.find(rt, pass, name) {
                 Found::Value(value) => return Some(value),
                 Found::Over => return None,
                 Found::Empty => {}
@@ -332,9 +342,11 @@ impl<T: Drop, A: Allocator + Drop> Segment<T, A> {
         rt: &R,
         pass: &mut Pass<T>,
         deadline: Instant,
+        name: u32,
     ) -> Received<T>
         requires segment { pass.old.seat.table_id ≡ self.now.table.shared.table_id }
         requires free { IsFree pass.old }
+        requires name { (view_in pass.old).account.name ≡ name }
         ensures pass { IsStill pass.old pass.new }
         ensures answer { OfReceived result
             (λ x. (at : ℕ) × (bare (view_in pass.new) ≡ got_at at x (calm (view_in pass.old)))
@@ -348,13 +360,13 @@ impl<T: Drop, A: Allocator + Drop> Segment<T, A> {
     {
         for _ in rt.forever() {
             // A value that is there is taken without the list.
-            match self.find_soon(rt, pass) {
+            match self.find_soon(rt, pass, name) {
                 Found::Value(value) => return Received::Value(value),
                 Found::Over => return Received::Over,
                 Found::Empty => {}
             }
             self.enter_list(rt, pass);
-            match self.find_listed(rt, pass) {
+            match self.find_listed(rt, pass, name) {
                 Found::Value(value) => {
                     self.leave_list(rt, pass);
                     return Received::Value(value);
@@ -369,7 +381,7 @@ impl<T: Drop, A: Allocator + Drop> Segment<T, A> {
                 self.leave_list(rt, pass);
                 return Received::TimedOut;
             }
-            match self.find(rt, pass) {
+            match self.find(rt, pass, name) {
                 Found::Value(value) => return Received::Value(value),
                 Found::Over => return Received::Over,
                 Found::Empty => {}

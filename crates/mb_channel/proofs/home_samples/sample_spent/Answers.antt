@@ -6,6 +6,7 @@ pub returns-clause-spent : goal.returns-clause-spent
 returns-clause-spent c hs all views id = record {
   named = λ l. absurd (true≢false (sym l));
   falls = tt;
+  names = (tt, tt);
   near = inl refl;
   inside = λ l. absurd (true≢false (sym l));
   takes = λ _ j lt. absurd (omega (arith, lt));

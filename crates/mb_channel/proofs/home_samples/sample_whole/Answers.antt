@@ -36,7 +36,7 @@ nobody_else n ne none_ =
 once_each : (n : ℕ) → how_many n (past_of last_of_two ∷ last_of_two.ended) ≤ 1
 once_each n = once_more (past_of last_of_two) n (how_many n last_of_two.ended)
     (how_many n (past_of last_of_two ∷ last_of_two.ended)) refl
-    (once_more (record { number = 1; visits = visit 0 one_got ∷ [] }) n 0
+    (once_more (record { number = 1; name = 0; visits = visit 0 one_got ∷ [] }) n 0
     (how_many n last_of_two.ended) refl (omega arith) (λ _. refl))
     (λ q. ap (λ i. how_many i last_of_two.ended) (sym q))
 

@@ -5,6 +5,6 @@ pub returns : goal.returns
 returns g c = record {
   later = λ x y k l m n bs cs ds es hs a b up keeps.
       keeps b.place (up_then _ l b.place a.known (up_then l m b.place up b.behind));
-  returned = λ x y k l m bs cs ks ls hs a b up keeps.
+  returned = λ x y k l m bs cs ks ls hs n a b up keeps.
       keeps b.place (up_then _ l b.place a.known (up_then l m b.place up b.behind));
 }

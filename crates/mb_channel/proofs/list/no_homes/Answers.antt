@@ -8,4 +8,5 @@ returns g c = (
       (λ l. l ++ c.none.result ∷ []) c.new-homes.ensures.items,
   c.none.ensures.0,
   c.none.ensures.1,
+  c.none.ensures.2,
 )

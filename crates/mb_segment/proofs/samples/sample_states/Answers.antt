@@ -1,13 +1,16 @@
-use Rattle.mb_segment.proofs.Base.{[], ap, arith, get_elem?, inl, length, refl, some, some-injective, some-ne-none, subst, suc, sym}
-use Rattle.mb_segment.proofs.Base.{None, zero, ℕ, ⊎_elim, ◌-◌, ◌+◌, ◌∷◌, ◌≡◌, ◌≢◌, ◌≤◌}
-use Rattle.mb_segment.specs.SegmentSamples.{forgotten, giver, overslept, sleeper, taken, unused, with_tokens, woken}
-use Rattle.mb_segment.specs.Vocabulary.{Duty, Fits, HasLooked, History, Issuer, Keeps, Member, View, blank, drawn, free, if_hub, listed, member, new_hub, one_if_member, out}
+use Rattle.mb_segment.proofs.Base.{List, [], ap, arith, get_elem?, inl, length, refl, some, some-injective, some-ne-none, subst, suc, sym}
+use Rattle.mb_segment.proofs.Base.{None, false, slice_index, zero, ℕ, ⊎_elim, ◌-◌, ◌+◌, ◌∷◌, ◌≡◌, ◌≢◌, ◌≤◌}
+use Rattle.mb_segment.specs.SegmentSamples.{account, forgotten, giver, marked_as, overslept, sleeper, taken, unused, view, with_tokens, woken}
+use Rattle.mb_segment.specs.Vocabulary.{Has, Spot, all_entries, spot}
+use Rattle.mb_segment.specs.Vocabulary.{Account, Called, Duty, Fits, HasLooked, History, IsCalled, Issuer, Keeps, Member, View, blank, drawn, free, if_hub, listed, member, new_hub, one_if_member, out}
 use Rattle.mb_segment.specs.Vocabulary.{Sight, owes_wake, row, sleeping, takes_token, tokens_given, tokens_taken, with_duty}
 use Rattle.mb_segment.proofs.Halves.{hub_is_no_member, hub_is_not_spent, spent_is_no_member}
-use Rattle.mb_segment.proofs.Kept.{Plain, at0, at1, at2, refit}
+use Rattle.mb_segment.proofs.Kept.{at0, at1, at2}
+use Rattle.mb_segment.proofs.Fitting.{Plain, refit}
 use Rattle.mb_segment.proofs.LookMoves.{none_free}
 use Rattle.mb_segment.proofs.PassMoves.{opens, unseen}
-use Rattle.mb_segment.proofs.Places.{new_open}
+use Rattle.mb_segment.proofs.Places.{drawn_at, new_open}
+use Rattle.mb_segment.proofs.Spots.{index_at, state_word}
 use Rattle.mb_segment.proofs.samples.sample_states.Goals as goal
 
 pub returns-clause-new : goal.returns-clause-new
@@ -35,6 +38,23 @@ returns-clause-unpaid c k =
     let f = k.fits 0 (with_duty owes_wake new_hub) refl in
     let q = ap (λ (d : Duty). d.wakes) (f.debt hub_is_no_member) in absurd (omega arith)
 
+pub returns-clause-misnamed : goal.returns-clause-misnamed
+returns-clause-misnamed c k =
+    let s = marked_as 7 in
+    let t = at1 s k in
+    let m = (k.fits 1 (view (account (spot 0 10 ∷ []) [] false)) refl).member refl in
+    let d = drawn_at 1 0 10 0 (all_entries k.history)
+    (subst (λ (l : List (Spot ℕ)). Has 0 10 l) m.sent (inl (refl, refl))) in
+    let first : d.0 ≡ 0 = let q = d.2 in omega arith in
+    let at_ = subst (λ (l : ℕ). get_elem? (all_entries k.history) l ≡ some d.1) first d.3 in
+    let says : slice_index k.states 0 ≡ 8 = sym (ap (λ l. slice_index l (state_word 0)) k.words) in
+    let none_ : 0 ≡ k.names 1 = (k.called 1 (view (account (spot 0 10 ∷ []) [] false)) refl).0 refl in
+    let by = ap k.names d.4 in
+    ⊎_elim
+    (λ z. let e = index_at k.states 0 0 z.0 in absurd (omega arith))
+    (λ z. let e = index_at k.states 0 (k.names d.1.by + 1) z.0 in absurd (omega arith))
+    (k.waits 0 d.1 (omega arith) at_)
+
 -- ---- a segment with no position, with tokens or not
 abbrev two_out : View ℕ
 two_out = record new_hub { out = 2 }
@@ -43,7 +63,7 @@ abbrev no_entry : History ℕ
 no_entry = record { claims = []; rest = []; cutter = None }
 
 is_pass : (n : ℕ) → n ≢ 0 → Fits no_entry [] 0 0 [] n blank
-is_pass n apart = unseen no_entry [] 0 0 [] n Member
+is_pass n apart = unseen no_entry [] 0 0 [] n 0 Member
     (λ _. record { sent = refl; got = refl; cut = refl; no_hub = apart; not_back = λ in_. in_ })
     (λ e. absurd (hub_is_no_member (sym e))) (λ e. absurd (spent_is_no_member (sym e)))
 
@@ -53,7 +73,7 @@ module _ (one : View ℕ) (plain_ : Plain blank one) where
       → Fits no_entry [] 0 0 [] n v
   fits_both zero v at = subst (λ (u : View ℕ). Fits no_entry [] 0 0 [] 0 u) (some-injective two_out v at)
       (refit no_entry [] 0 0 [] 0 new_hub two_out (refl, refl, refl, refl, refl, refl, refl, λ _ e. e)
-      (unseen no_entry [] 0 0 [] 0 Issuer (λ e. absurd (hub_is_no_member e)) (λ _. (refl, tt))
+      (unseen no_entry [] 0 0 [] 0 0 Issuer (λ e. absurd (hub_is_no_member e)) (λ _. (refl, tt))
       (λ e. absurd (hub_is_not_spent Issuer refl e))))
   fits_both (suc zero) v at = subst (λ (u : View ℕ). Fits no_entry [] 0 0 [] 1 u) (some-injective one v at)
       (refit no_entry [] 0 0 [] 1 blank one plain_ (is_pass 1 (λ q. omega arith)))
@@ -70,6 +90,18 @@ module _ (one : View ℕ) (plain_ : Plain blank one) where
   looked_both (suc (suc zero)) v at =
       subst (λ (u : View ℕ). HasLooked [] 2 u.sight) (some-injective giver v at) (refl, λ lt. absurd (omega arith))
   looked_both (suc (suc (suc n))) v at = absurd (some-ne-none v (sym at))
+
+  called_both : (n : ℕ) (v : View ℕ) → get_elem? (two_out ∷ one ∷ giver ∷ []) n ≡ some v
+      → IsCalled (λ j. 0) [] n v
+  called_both zero v at = subst (λ (u : View ℕ). IsCalled (λ j. 0) [] 0 u) (some-injective two_out v at)
+      (λ _. refl, λ _. tt)
+  called_both (suc zero) v at = subst (λ (u : View ℕ). IsCalled (λ j. 0) [] 1 u) (some-injective one v at) (
+    λ _. ap (λ (a : Account ℕ). a.name) plain_.1,
+    λ _. subst (λ (as_ : List (Account ℕ)). Called (λ j. 0) [] as_) (sym plain_.5) tt,
+  )
+  called_both (suc (suc zero)) v at = subst (λ (u : View ℕ). IsCalled (λ j. 0) [] 2 u) (some-injective giver v at)
+      (λ _. refl, λ _. tt)
+  called_both (suc (suc (suc n))) v at = absurd (some-ne-none v (sym at))
 
   keeps_both : (t : ℕ) → t ≤ 1 → listed one ≡ t → sleeping one ≤ t → one.role ≡ Member → one.out ≡ 0
       → tokens_given one ≡ 0 → t + tokens_taken one ≡ 1 → Keeps (with_tokens t one giver)
@@ -89,6 +121,9 @@ module _ (one : View ℕ) (plain_ : Plain blank one) where
     walked = (refl, refl);
     true_ = tt;
     looked = λ n v at r. looked_both n v at;
+    names = λ j. 0;
+    short = λ j. omega arith;
+    called = called_both;
     undrawn = λ k le lt. absurd (omega arith);
     waits = λ k e le at. absurd (some-ne-none e (sym at));
     taken_ = λ k c at. absurd (some-ne-none c (sym at));

@@ -1,10 +1,10 @@
 use Rattle.mb_segment.proofs.Base.{[], ap, arith, get_elem?, inl, length, refl, some, some-injective, some-ne-none, subst, suc, sym}
 use Rattle.mb_segment.proofs.Base.{None, if◌then◌else◌, length-append, ne_eqb, true≢false, zero, ◌∙◌, ◌≤◌, ℕ, ◌∷◌, ◌≡◌, ◌<◌}
 use Rattle.mb_segment.specs.SegmentSamples.{looked_after, overslept, saw, sleeper, walk}
-use Rattle.mb_segment.specs.Vocabulary.{Claimed, Drew, Fits, FoundEmpty, HasLooked, History, Issuer, Member, View, blank}
+use Rattle.mb_segment.specs.Vocabulary.{Claimed, Drew, Fits, FoundEmpty, HasLooked, History, IsCalled, Issuer, Member, View, blank}
 use Rattle.mb_segment.specs.Vocabulary.{new_hub, blind, sees_empty, times_empty}
 use Rattle.mb_segment.proofs.Halves.{hub_is_no_member, hub_is_not_spent, spent_is_no_member}
-use Rattle.mb_segment.proofs.Kept.{refit, sighted}
+use Rattle.mb_segment.proofs.Fitting.{refit, sighted}
 use Rattle.mb_segment.proofs.PassMoves.{unseen}
 use Rattle.mb_segment.proofs.Spots.{no_some}
 use Rattle.mb_segment.proofs.Walks.{true_before}
@@ -38,12 +38,12 @@ fits_here : (n : ℕ) (v : View ℕ) → get_elem? (one_out ∷ sees_empty 0 [] 
     → Fits no_entry (0 ∷ []) 0 0 [] n v
 fits_here zero v at = subst (λ (u : View ℕ). Fits no_entry (0 ∷ []) 0 0 [] 0 u) (some-injective one_out v at)
     (refit no_entry (0 ∷ []) 0 0 [] 0 new_hub one_out (refl, refl, refl, refl, refl, refl, refl, λ _ e. e)
-    (unseen no_entry (0 ∷ []) 0 0 [] 0 Issuer (λ e. absurd (hub_is_no_member e)) (λ _. (refl, tt))
+    (unseen no_entry (0 ∷ []) 0 0 [] 0 0 Issuer (λ e. absurd (hub_is_no_member e)) (λ _. (refl, tt))
     (λ e. absurd (hub_is_not_spent Issuer refl e))))
 fits_here (suc zero) v at = subst (λ (u : View ℕ). Fits no_entry (0 ∷ []) 0 0 [] 1 u)
     (some-injective (sees_empty 0 [] blank) v at)
     (sighted no_entry (0 ∷ []) 0 0 [] 1 blank record blind { found = 1 }
-    (unseen no_entry (0 ∷ []) 0 0 [] 1 Member
+    (unseen no_entry (0 ∷ []) 0 0 [] 1 0 Member
     (λ _. record { sent = refl; got = refl; cut = refl; no_hub = λ q. omega arith; not_back = λ in_. in_ })
     (λ e. absurd (hub_is_no_member (sym e))) (λ e. absurd (spent_is_no_member (sym e))))
     (omega arith) (λ i e. absurd (no_some i e)) (λ e. absurd (true≢false (sym e)))
@@ -56,6 +56,14 @@ looked_here zero v at r = absurd (hub_is_no_member (ap (λ (u : View ℕ). u.rol
 looked_here (suc zero) v at r = subst (λ (u : View ℕ). HasLooked (FoundEmpty 1 ∷ []) 1 u.sight)
     (some-injective (sees_empty 0 [] blank) v at) (refl, λ _. (([], refl), refl, refl))
 looked_here (suc (suc n)) v at r = absurd (some-ne-none v (sym at))
+
+called_here : (n : ℕ) (v : View ℕ) → get_elem? (one_out ∷ sees_empty 0 [] blank ∷ []) n ≡ some v
+    → IsCalled (λ j. 0) [] n v
+called_here zero v at = subst (λ (u : View ℕ). IsCalled (λ j. 0) [] 0 u) (some-injective one_out v at)
+    (λ _. refl, λ _. tt)
+called_here (suc zero) v at = subst (λ (u : View ℕ). IsCalled (λ j. 0) [] 1 u)
+    (some-injective (sees_empty 0 [] blank) v at) (λ _. refl, λ _. tt)
+called_here (suc (suc n)) v at = absurd (some-ne-none v (sym at))
 
 undrawn_here : (j : ℕ) → 0 ≤ j → j < 1
     → (get_elem? {A = ℕ} (0 ∷ []) j ≡ some 0) × (get_elem? (looked_after []).homes j ≡ some (some None))
@@ -82,6 +90,9 @@ returns-clause-looked c = record {
   walked = (refl, refl);
   true_ = (refl, tt);
   looked = looked_here;
+  names = λ j. 0;
+  short = λ j. omega arith;
+  called = called_here;
   undrawn = undrawn_here;
   waits = λ k e le at. absurd (some-ne-none e (sym at));
   taken_ = λ k c at. absurd (some-ne-none c (sym at));

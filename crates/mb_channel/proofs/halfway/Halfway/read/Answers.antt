@@ -9,7 +9,7 @@ read-value-requires g c =
     let h = c.args.self in
     let is = c.requires.reader in
     let r = reads_value h.at h.begun.position (half_in h.begun.pass) _ is.0.0 is.0.1 h.begun.begun.0 in
-    record { reads = (r.0, (r.1, is.1)) }
+    record { named = h.named; reads = (r.0, (r.1, is.1)) }
 
 pub returns-clause-value : goal.returns-clause-value
 returns-clause-value g c =

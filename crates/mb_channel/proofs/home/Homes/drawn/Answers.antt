@@ -5,7 +5,7 @@ use Rattle.mb_channel.proofs.home.Homes.drawn.Goals as goal
 
 pub loop-at-init : goal.loop-at-init
 loop-at-init g c = let hs = c.args.self.now.list.items in
-    record { first = refl; long = refl; looked = looked_same hs; drawn = refl }
+    record { first = (refl, refl); long = refl; looked = looked_same hs; drawn = refl }
 
 pub returns-in_err-drawn-clause-looked : goal.returns-in_err-drawn-clause-looked
 returns-in_err-drawn-clause-looked g c = looks_more c.args.self.now.list.items c.loop-at.self.list.items
@@ -18,7 +18,7 @@ loop-at-preserved g c =
     let us = c.drawn_at.new.self.list.items in
     let looked = looks_more hs gs us c.loop-at.at (λ _ h. c.drawn_at.result ≡ drawn_there h)
     c.loop-at.invariant.looked c.drawn_at.ensures.drawn in record {
-      first = c.drawn_at.ensures.first ∙ c.loop-at.invariant.first;
+      first = (let a = c.drawn_at.ensures.first in let b = c.loop-at.invariant.first in (a.0 ∙ b.0, a.1 ∙ b.1));
       long = looked_long hs us looked;
       looked = looked;
       drawn = (let more = sums_more drawn_there gs us c.loop-at.at c.drawn_at.result (λ h u. HasLooked h u)

@@ -5,7 +5,7 @@ use Rattle.mb_channel.proofs.home.Homes.taken.Goals as goal
 
 pub loop-at-init : goal.loop-at-init
 loop-at-init g c = let hs = c.args.self.now.list.items in
-    record { first = refl; long = refl; looked = looked_same hs; taken = refl; drawn = refl }
+    record { first = (refl, refl); long = refl; looked = looked_same hs; taken = refl; drawn = refl }
 
 pub returns-in_err-taken-clause-looked : goal.returns-in_err-taken-clause-looked
 returns-in_err-taken-clause-looked g c = looks_more c.args.self.now.list.items c.loop-at.self.list.items
@@ -23,7 +23,7 @@ loop-at-preserved g c =
     let us = c.taken_at.new.self.list.items in
     let looked = looks_more hs gs us c.loop-at.at (λ _ h. c.taken_at.result ≡ taken_there h)
     c.loop-at.invariant.looked c.taken_at.ensures.taken in record {
-      first = c.taken_at.ensures.first ∙ c.loop-at.invariant.first;
+      first = (let a = c.taken_at.ensures.first in let b = c.loop-at.invariant.first in (a.0 ∙ b.0, a.1 ∙ b.1));
       long = looked_long hs us looked;
       looked = looked;
       taken = (let more = sums_more taken_there gs us c.loop-at.at c.taken_at.result (λ h u. HasLooked h u)

@@ -51,7 +51,7 @@ returns-clause-homes g c = let t = c.requires.homes in
       c.sweep.new.self,
       only_one c.args.chair.now.me.1 t.0 c.sweep.new.self t.1,
       ch.0,
-      c.sweep.ensures ch.0 ch.1,
+      c.sweep.ensures.stands ch.0 ch.1,
       subst (λ b. Changes b ch.0 c.args.at (λ h g. HasTakenBack h g (pass_view c.args.pass)
           × (c.take_back-done.result ≡ g.done))) t.4 ch.2,
     )

@@ -40,3 +40,7 @@ returns-clause-left g c = let x = c.try_lock.ensures.locked c.if-not-try_lock.fa
   e.1 ∙ ap (λ (z : Knows _). left_segment (pass_view c.args.pass) c.part.result (unlocked z)) x.4.1,
   e.2,
 )
+
+pub part-requires-clause-named : goal.part-requires-clause-named
+part-requires-clause-named g c = let x = c.try_lock.ensures.locked c.if-not-try_lock.false in
+    c.requires.named ∙ sym (ap (λ (v : Knows _). v.name) x.4.1)

@@ -6,6 +6,6 @@ pub load-requires : goal.load-requires
 load-requires g c = let shape = c.args.self.now.shape in (
   c.requires.list,
   omega (arith, shape.0),
-  numbers c.args.self.now.table.shared.table_id.slots c.args.chair.now.id
+  numbers g.N.Name.name c.args.self.now.table.shared.table_id.slots c.args.chair.now.id
       c.args.chair.now.me c.requires.unborn.0 c.requires.unborn.1,
 )

@@ -18,7 +18,8 @@ give_left-requires-clause-lawful g c = let y = c.give_pass-done.ensures.homes in
     × (c.give_pass-done.result ≡ g.done))) (sym view)
     (subst (λ n. Changes c.args.chair.now.me.0.before y.2 n (λ h g. HasTakenBack h g (pass_view c.args.pass)
     × (c.give_pass-done.result ≡ g.done))) (sym h.3) y.4))
-    (λ q. c.requires.poor (sym (ap (λ (v : Knows _). v.takes) view) ∙ q)))
+    (λ q. c.requires.poor (sym (ap (λ (v : Knows _). v.takes) view) ∙ q))
+    (c.requires.named ∙ sym (ap (λ (v : Knows _). v.name) view)))
 
 pub returns-clause-left : goal.returns-clause-left
 returns-clause-left g c = let y = c.give_pass-done.ensures.homes in

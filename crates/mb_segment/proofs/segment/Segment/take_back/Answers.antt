@@ -1,6 +1,6 @@
 use Rattle.std.proofs.Common.{ap, arith}
 use Rattle.mb_segment.specs.Vocabulary.{View}
-use Rattle.mb_segment.proofs.PassMoves.{joins}
+use Rattle.mb_segment.proofs.BackMoves.{joins}
 use Rattle.mb_segment.proofs.segment.Segment.take_back.Goals as goal
 
 pub join_seat-requires : goal.join_seat-requires

@@ -6,8 +6,8 @@ use Rattle.mb_channel.specs.Inside.{pass_there}
 use Rattle.mb_channel.specs.Standing.{OneSent}
 use Rattle.mb_channel.specs.Work.{work_in, work_of}
 use Rattle.mb_channel.proofs.EndLogs.{one_sent}
-use Rattle.mb_channel.proofs.end.End.try_send.Goals.{in-Sent, in-Again, in-Over}
-use Rattle.mb_channel.proofs.end.End.try_send.Goals as goal
+use Rattle.mb_channel.proofs.end.End.send_inside.Goals.{in-Sent, in-Again, in-Over}
+use Rattle.mb_channel.proofs.end.End.send_inside.Goals as goal
 
 pub returns-in-Owes-clause-answer : goal.returns-in-Owes-clause-answer
 returns-in-Owes-clause-answer g c = one_sent c.args.self.chair _ (work_in c.in-Some.inside) (work_of c.in-Owes.busy)

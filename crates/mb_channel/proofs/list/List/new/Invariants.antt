@@ -1,0 +1,4 @@
+use Rattle.mb_channel.proofs.list.List.new.Given as goal
+
+abbrev pub ghosts-number : goal.ghosts-number
+ghosts-number g a = record { name = a.name }
