@@ -187,8 +187,10 @@ def write(path, text):
 
 def main():
     os.environ["CARGO_NET_OFFLINE"] = "true"
-    os.environ["CARGO_PROFILE_DEV_DEBUG"] = "0"  # (so builds take less time)
-    os.environ.pop("CARGO_TARGET_DIR", None)
+    # (so builds take less time: each but a room's first has only a few lines that are new)
+    os.environ["CARGO_PROFILE_DEV_DEBUG"], os.environ["CARGO_INCREMENTAL"] = "0", "1"
+    for it in "CARGO_TARGET_DIR", "CARGO_PROFILE_DEV_CODEGEN_UNITS":
+        os.environ.pop(it, None)
     wanted = [it for it in BODIES if not sys.argv[1:] or any(word in it[0] for word in sys.argv[1:])]
     # (first each test without a change, when it has to pass)
     wanted = [("", "", "", "", words) for words in sorted({it[4] for it in wanted})] + wanted
