@@ -1,6 +1,6 @@
 -- Fates are kept, taken out and told. They name the ends whose logs have the values.
-use Rattle.std.proofs.Common.{ℕ, zero, suc, Bool, true, false, true≢false, List, [], drop, length, nat_eq}
-use Rattle.std.proofs.Common.{sym, refl, ap, subst, inl, inr, ⊎_elim, arith, ◌≡◌, ◌+◌, ◌-◌, ◌⊎◌, ◌∷◌, ◌++◌, ◌∙◌, if◌then◌else◌}
+use Rattle.std.proofs.Common.{ℕ, suc, Bool, true, false, true≢false, List, [], drop, length, nat_eq}
+use Rattle.std.proofs.Common.{sym, refl, ap, subst, inl, inr, ⊎_elim, arith, ◌≡◌, ◌-◌, ◌⊎◌, ◌∷◌, ◌++◌, ◌∙◌, if◌then◌else◌}
 use Rattle.std.specs.Prelude.{IfNone, IfSome, None, Option, Some, map}
 use Rattle.std.proofs.lemmas.List.{append_assoc, length-append}
 use mathlib.Core.Option.{none, some}

@@ -191,12 +191,12 @@ module _ {T : Type 0} where
       → Stands hs m
   stands_freed hs l m h s is done more fates = let number = s.number in
       let n = length-append s.gone (h ∷ []) in record {
-    gone = s.gone ++ h ∷ [];
-    all = s.all ∙ ap (λ x. s.gone ++ x) is ∙ sym (append_assoc s.gone (h ∷ []) m.list.items);
-    number = omega arith;
-    freed = all_snoc IsFreed s.gone h s.freed done;
-    fates = fates;
-  }
+        gone = s.gone ++ h ∷ [];
+        all = s.all ∙ ap (λ x. s.gone ++ x) is ∙ sym (append_assoc s.gone (h ∷ []) m.list.items);
+        number = omega arith;
+        freed = all_snoc IsFreed s.gone h s.freed done;
+        fates = fates;
+      }
 
   pub longer_of : {E : Type 0} (r : Result (Unit {0}) E) (n : ℕ) (hs : List (Home T)) (l m : Homes T) → Stands hs l
       → length hs ≡ n

@@ -1,6 +1,6 @@
 -- An end counts for one sender more, or sees that none is left.
 use Rattle.std.proofs.Common.{ℕ, true, false, refl, arith}
-use Rattle.std.proofs.Common.{◌≡◌, ◌≢◌, ◌+◌, ◌<◌, ◌∙◌}
+use Rattle.std.proofs.Common.{◌≡◌, ◌+◌, ◌<◌, ◌∙◌}
 use Rattle.std.specs.Prelude.{◌==◌, slice_index}
 use mathlib.Core.Option.{none}
 use native.Mathlib.Decide.{ℕ_discrete}

@@ -1,5 +1,5 @@
 -- Each step leaves an end that remembers that the list was closed, or that no sender is left.
-use Rattle.std.proofs.Common.{ℕ, true, List, [], sym, ap, subst, refl, ◌≡◌, ◌≢◌, ◌∷◌, ◌++◌, ◌∙◌}
+use Rattle.std.proofs.Common.{ℕ, true, List, [], sym, ap, subst, ◌≡◌, ◌≢◌, ◌∷◌, ◌++◌, ◌∙◌}
 use Rattle.std.specs.Prelude.{slice_set}
 use mathlib.Core.Option.{some, some-injective}
 use lib.ListN.{get_elem?}

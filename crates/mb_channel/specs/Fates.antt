@@ -9,7 +9,6 @@ use Rattle.mb_segment.specs.Vocabulary.{fate_in, name_in}
 use Rattle.mb_segment.specs.declared.left.Fate.{Fate}
 use Rattle.mb_channel.specs.declared.auditing.Audited.{Audited}
 use Rattle.mb_channel.specs.declared.auditing.Audited.TheVariants as audited
-use Rattle.mb_channel.specs.Deeds.{Deed}
 use Rattle.mb_channel.specs.Types.{Audit, Fates, Home, Homes, Knows}
 use Rattle.mb_channel.specs.Homes.{At, IsFreed, Sat, Stands, came_back, past_of, unlocked}
 use Rattle.mb_channel.specs.Inside.{Log, log_of_past}

@@ -6,7 +6,7 @@ use mathlib.Core.Option.{some, none}
 use lib.ListN.{get_elem?}
 use Rattle.atomic_table.specs.Table.{Allows, Me, State, Step, step}
 use Rattle.atomic_table.specs.declared.shared.Seat.{Seat}
-use Rattle.mb_channel.specs.Types.{Account, Arc, Audit, Global, Home, Homes, Knows, Left, Pass, Past, Segment, View, Visit, arc_value}
+use Rattle.mb_channel.specs.Types.{Account, Arc, Audit, Global, Home, Homes, Knows, Left, Pass, Past, Segment, View, arc_value}
 use Rattle.mb_channel.specs.Remembers.{Remembers}
 pub use Rattle.mb_channel.specs.Visits.{AllMade, AllPast, AreNamed, Falls, HasNames, Made, TellsFates, made_by, made_in}
 use Rattle.mb_segment.specs.Vocabulary.{IsWhole as SegmentIsWhole, hub_view, is_over, issued, new_hub, took_back}

@@ -1,11 +1,11 @@
-use Rattle.std.proofs.Common.{ℕ, zero, suc, List, [], ◌∷◌, ap, arith, inl, length, map, refl, subst, sym, true≢false, ⊎_elim, ◌≡◌, ◌∙◌}
+use Rattle.std.proofs.Common.{ℕ, zero, suc, [], ◌∷◌, ap, arith, inl, length, map, refl, subst, sym, true≢false, ⊎_elim, ◌≡◌, ◌∙◌}
 use Rattle.std.specs.Option.{unwrap_or}
 use mathlib.Core.Option.{some, some-injective, some-ne-none}
 use lib.ListN.{get_elem?}
 use Rattle.mb_channel.specs.Types.{Knows}
 use Rattle.mb_channel.specs.Homes.{Sat, past_of}
 use Rattle.mb_channel.specs.Deeds.{Deed}
-use Rattle.mb_channel.specs.HomeSamples.{fate, place, seven}
+use Rattle.mb_channel.specs.HomeSamples.{place, seven}
 use Rattle.mb_channel.specs.Inside.{Log, log_of_past}
 use Rattle.mb_channel.specs.Fates.{IsOneOf}
 use Rattle.mb_channel.proofs.home_samples.sample_fates.Goals as goal

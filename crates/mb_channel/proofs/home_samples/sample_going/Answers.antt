@@ -1,4 +1,4 @@
-use Rattle.std.proofs.Common.{ℕ, zero, suc, [], ◌∷◌, ◌<◌, refl, sym, subst, inl, ⊎_elim, arith}
+use Rattle.std.proofs.Common.{ℕ, zero, suc, [], ◌∷◌, refl, sym, subst, inl, ⊎_elim, arith}
 use mathlib.Core.Option.{some-injective}
 use Rattle.mb_channel.specs.Types.{Home}
 use Rattle.mb_channel.specs.Homes.{At, IsDone, IsNext}

@@ -1,9 +1,9 @@
-use Rattle.std.proofs.Common.{ℕ, zero, suc, [], ◌∷◌, ◌≡◌, ◌<◌, ap, arith, false, length, refl, subst, sym, true, true≢false, ◌∙◌}
+use Rattle.std.proofs.Common.{ℕ, zero, suc, [], ◌∷◌, ◌≡◌, ap, arith, false, refl, subst, sym, true≢false, ◌∙◌}
 use mathlib.Core.Option.{some, some-injective, some-ne-none}
 use lib.ListN.{get_elem?}
 use Rattle.mb_segment.specs.SegmentSamples.{unused}
-use Rattle.mb_segment.specs.Vocabulary.{IsViewOf, claimed_in, drawn_in, is_over, new_hub}
-use Rattle.mb_channel.specs.Homes.{IsDone, IsNew, IsOver}
+use Rattle.mb_segment.specs.Vocabulary.{IsViewOf, is_over, new_hub}
+use Rattle.mb_channel.specs.Homes.{IsNew}
 use Rattle.mb_channel.specs.Types.{Home, View}
 use Rattle.mb_channel.proofs.home_samples.sample_moment.Goals as goal
 

@@ -1,4 +1,4 @@
-use Rattle.std.proofs.Common.{arith, length, subst, suc, sym, ℕ, ◌<◌, ◌≡◌, ◌≢◌}
+use Rattle.std.proofs.Common.{arith, subst, sym, ℕ, ◌≡◌}
 use native.Mathlib.Decide.{dec_lt, ℕ_discrete}
 use mathlib.Core.Logic.{dite}
 use Rattle.mb_segment.specs.Vocabulary.{claimed_in, drawn_in}
