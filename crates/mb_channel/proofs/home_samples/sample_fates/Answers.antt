@@ -10,19 +10,6 @@ use Rattle.mb_channel.specs.Inside.{Log, log_of_past}
 use Rattle.mb_channel.specs.Fates.{IsOneOf}
 use Rattle.mb_channel.proofs.home_samples.sample_fates.Goals as goal
 
-pub returns-clause-kept : goal.returns-clause-kept
-returns-clause-kept c l m x on none_ more kept = (
-  on,
-  λ _. (let a = ap length none_ in let b = ap length kept in omega (arith, a, b, more)),
-)
-
-pub returns-clause-lost : goal.returns-clause-lost
-returns-clause-lost c l m on none_ more kept loses = let a = ap length none_ in let b = ap length kept in
-    let e = loses.1 on in absurd (omega (arith, a, b, more, e))
-
-pub returns-clause-off : goal.returns-clause-off
-returns-clause-off c h a x off kept keeps = let e = ap length (sym kept ∙ keeps.4 off) in absurd (omega (arith, e))
-
 only : (id : ℕ) (v : Knows ℕ) → get_elem? {A = Knows ℕ} (seven ∷ []) id ≡ some v → seven ≡ v
 only zero v at = some-injective seven v at
 only (suc id) v at = absurd (some-ne-none v (sym at))
