@@ -1,7 +1,7 @@
 -- Fates are kept, taken out and told. They name the ends whose logs have the values.
-use Rattle.std.proofs.Common.{ℕ, zero, suc, Bool, true, false, true≢false, List, [], drop, length, nat_eq}
+use Rattle.std.proofs.Common.{ℕ, suc, Bool, true, false, true≢false, List, [], length, nat_eq}
 use Rattle.std.proofs.Common.{sym, refl, ap, subst, inl, inr, ⊎_elim, arith, ◌≡◌, ◌+◌, ◌-◌, ◌⊎◌, ◌∷◌, ◌++◌, ◌∙◌, if◌then◌else◌}
-use Rattle.std.specs.Prelude.{IfNone, IfSome, None, Option, Some, map}
+use Rattle.std.specs.Prelude.{IfSome, None, Option, Some, map}
 use Rattle.std.proofs.lemmas.List.{append_assoc, length-append}
 use mathlib.Core.Option.{none, some}
 use lib.ListN.{get_elem?}
@@ -9,149 +9,44 @@ use Rattle.atomic_table.specs.Table.{Allows, State, Step, step}
 use Rattle.atomic_table.specs.declared.shared.Seat.{Seat}
 use Rattle.atomic_table.proofs.Lists.{at_longer}
 use Rattle.mb_segment.specs.Vocabulary.{Has, name_in}
-use Rattle.mb_channel.specs.Types.{Account, Audit, Fates, Global, Home, Homes, Knows, Left, Past, Position, Visit}
+use Rattle.mb_channel.specs.Types.{Account, Fates, Global, Home, Homes, Knows, Left, Past, Position, Visit}
 use Rattle.mb_channel.specs.Deeds.{Deed, deed}
-use Rattle.mb_channel.specs.Homes.{AllPast, AreFates, AreNamed, IsFreed, IsReady, Keeps, KeepsFates, Made, PastFits, Sat, Stands, TellsFates}
+use Rattle.mb_channel.specs.Homes.{AllPast, AreNamed, IsFreed, IsReady, Keeps, Made, PastFits, Sat, Stands, TellsFates}
 use Rattle.mb_channel.specs.Homes.{came_back, locked, made_by, made_in, past_of, unlocked}
 use Rattle.mb_channel.specs.Inside.{Log, in_visits, log_of_past}
-use Rattle.mb_channel.specs.Owned.{Fate, HasTaken, IsFateOf, IsLog, IsOneOf, IsTaken, IsTrue, LosesNone, gives_fates, is_fate, told_fates, told_of}
-use Rattle.mb_channel.proofs.Freed.{all_at, behind}
+use Rattle.mb_channel.specs.Owned.{Fate, HasTaken, IsFateOf, IsLog, IsOneOf, IsTaken, IsTrue, gives_fates, is_fate, told_fates}
+use Rattle.mb_channel.proofs.Freed.{behind}
 use Rattle.mb_channel.proofs.Lengths.{lawful_looked, let_go, looked_same, seat_is}
 use Rattle.mb_channel.proofs.Moves.{unlocks_as}
 use Rattle.mb_channel.proofs.Views.{in_own}
 
 module _ {A : Type 0} where
-  none_first : (xs ys : List A) → xs ≡ ys → ys ≡ drop 1 xs → ys ≡ []
-  none_first [] ys e d = sym e
-  none_first (x ∷ xs) ys e d = let n = ap length (e ∙ d) in absurd (omega arith)
-
   one_append : (a : A) (xs ys : List A) → IsOneOf a (xs ++ ys) → IsOneOf a xs ⊎ IsOneOf a ys
   one_append a [] ys is = inr is
   one_append a (x ∷ xs) ys is = ⊎_elim (λ e. inl (inl e))
       (λ r. ⊎_elim (λ x. inl (inr x)) (λ y. inr y) (one_append a xs ys r)) is
 
 module _ {T : Type 0} where
-  -- ---- a segment is freed
-  fates_snoc : (last : List (Home T)) (xs : List (Left T Global)) (h : Home T) (x : Left T Global) → AreFates last xs
-      → TellsFates x (came_back h) → AreFates (last ++ h ∷ []) (xs ++ x ∷ [])
-  fates_snoc [] [] h x are tells = (tells, tt)
-  fates_snoc [] (y ∷ ys) h x are tells = absurd are
-  fates_snoc (g ∷ gs) [] h x are tells = absurd are
-  fates_snoc (g ∷ gs) (y ∷ ys) h x are tells = (are.0, fates_snoc gs ys h x are.1 tells)
-
-  -- its fates are kept if the channel is audited
-  pub keeps_one : (gone : List (Home T)) (a b : Audit T) (h : Home T) (x : Left T Global) → a.is_on ≡ true
-      → b.is_on ≡ true → b.kept.items ≡ a.kept.items ++ x ∷ [] → KeepsFates gone a → TellsFates x (came_back h)
-      → KeepsFates (gone ++ h ∷ []) b
-  keeps_one gone a b h x on on' more k tells = (
-    k.0,
-    k.1 ++ h ∷ [],
-    ap (λ l. l ++ h ∷ []) k.2 ∙ append_assoc k.0 k.1 (h ∷ []),
-    subst (λ xs. AreFates (k.1 ++ h ∷ []) xs) (sym more) (fates_snoc k.1 a.kept.items h x k.3 tells),
-    λ off. absurd (true≢false (sym on' ∙ off)),
-  )
-
-  pub keeps_none : (gone : List (Home T)) (a : Audit T) (h : Home T) → a.is_on ≡ false → KeepsFates gone a
-      → KeepsFates (gone ++ h ∷ []) a
-  keeps_none gone a h off k = (
-    gone ++ h ∷ [],
-    [],
-    sym (Rattle.std.proofs.lemmas.List.append-nil (gone ++ h ∷ [])),
-    subst (λ xs. AreFates [] xs) (sym (k.4 off)) tt,
-    λ _. k.4 off,
-  )
-
-  pub keeps_still : (gone : List (Home T)) (a b : Audit T) → b.is_on ≡ a.is_on → b.kept.items ≡ a.kept.items
-      → KeepsFates gone a → KeepsFates gone b
-  keeps_still gone a b on same k = (
-    k.0,
-    k.1,
-    k.2,
-    subst (λ xs. AreFates k.1 xs) (sym same) k.3,
-    λ off. same ∙ k.4 (sym on ∙ off),
-  )
-
-  pub loses_on : (l m n : Homes T) → LosesNone l m → LosesNone m n → LosesNone l n
-  loses_on l m n a b = (b.0 ∙ a.0, λ on. b.1 (a.0 ∙ on) ∙ a.1 on)
-
-  -- ---- fates are taken out
-  fates_long : (hs : List (Home T)) (xs : List (Left T Global)) → AreFates hs xs → length xs ≡ length hs
-  fates_long [] [] are = refl
-  fates_long [] (x ∷ xs) are = absurd are
-  fates_long (h ∷ hs) [] are = absurd are
-  fates_long (h ∷ hs) (x ∷ xs) are = ap suc (fates_long hs xs are.1)
-
-  pub takes_first : (hs : List (Home T)) (l m : Homes T) (x : Left T Global) (k : ℕ) → Stands hs l
-      → l.audit.kept.items ≡ x ∷ m.audit.kept.items → m.audit.is_on ≡ l.audit.is_on → m.first ≡ l.first
-      → m.list.items ≡ l.list.items → k ≡ l.first - length l.audit.kept.items
-      → Stands hs m × IsFateOf hs (record { segment = k; left = x }) × (told_of m ≡ suc k)
-  takes_first hs l m x k s is on first list here = go s.fates.1 s.fates.2
-      (subst (λ xs. AreFates s.fates.1 xs) is s.fates.3)
-    where
-      go : (last : List (Home T)) → s.gone ≡ s.fates.0 ++ last → AreFates last (x ∷ m.audit.kept.items)
-          → Stands hs m × IsFateOf hs (record { segment = k; left = x }) × (told_of m ≡ suc k)
-      go [] e are = absurd are
-      go (h ∷ rest) e are =
-          let told = s.fates.0 in
-          let number = s.number in
-          let size = ap length e in
-          let sum = length-append told (h ∷ rest) in
-          let long = fates_long rest m.audit.kept.items are.1 in
-          let kept = ap length is in
-          let place : k ≡ length told = omega arith in
-          let at_gone : get_elem? s.gone (length told) ≡ some h = ap (λ l. get_elem? l (length told)) e
-          ∙ behind told (h ∷ rest) (length told) (omega arith)
-          ∙ ap (get_elem? (h ∷ rest)) (let z : length told - length told ≡ 0 = omega arith in z) in
-          let at_all : get_elem? hs (length told) ≡ some h = ap (λ l. get_elem? l (length told)) s.all
-          ∙ at_longer s.gone l.list.items (length told) h at_gone in (
-            record {
-              gone = s.gone;
-              all = s.all ∙ ap (λ l. s.gone ++ l) (sym list);
-              number = s.number ∙ sym first;
-              freed = s.freed;
-              fates = (
-                told ++ h ∷ [],
-                rest,
-                e ∙ sym (append_assoc told (h ∷ []) rest),
-                are.1,
-                λ off. absurd (none_off (s.fates.4 (sym on ∙ off))),
-              );
-            },
-            (h, ap (get_elem? hs) place ∙ at_all, (all_at IsFreed s.gone s.freed (length told) h at_gone, are.0)),
-            omega arith,
-          )
-        where
-          none_off : l.audit.kept.items ≡ [] → ⊥
-          none_off e = let n = ap length e in let m = ap length is in omega arith
-
-  -- the list has room for them, or nothing was there to take out
-  pub stands_still : (hs : List (Home T)) (l m : Homes T) → Stands hs l → m.first ≡ l.first
-      → m.list.items ≡ l.list.items → m.audit.is_on ≡ l.audit.is_on → m.audit.kept.items ≡ l.audit.kept.items
-      → Stands hs m
-  stands_still hs l m s first list on kept = record {
-    gone = s.gone;
-    all = s.all ∙ ap (λ x. s.gone ++ x) (sym list);
-    number = s.number ∙ sym first;
-    freed = s.freed;
-    fates = keeps_still s.gone l.audit m.audit on kept s.fates;
-  }
-
-  pub nothing_out : (l m : Homes T) → l.audit.kept.items ≡ m.audit.kept.items
-      → m.audit.kept.items ≡ drop 1 l.audit.kept.items → m.first ≡ l.first → m.list.items ≡ l.list.items
-      → m.audit.is_on ≡ l.audit.is_on
-      → (m.audit.kept.items ≡ []) × ((hs : List (Home T)) → Stands hs l → Stands hs m)
-  nothing_out l m same rest first list on = (
-    none_first l.audit.kept.items m.audit.kept.items same rest,
-    λ hs s. stands_still hs l m s first list on (sym same),
-  )
+  -- ---- the oldest segment is freed
+  pub first_fates : (hs rest : List (Home T)) (l : Homes T) (h : Home T) (x : Left T Global) → Stands hs l
+      → l.list.items ≡ h ∷ rest → IsFreed h → TellsFates x (came_back h)
+      → IsFateOf hs (record { segment = l.first; left = x })
+  first_fates hs rest l h x s is freed tells =
+      let number = s.number in (
+        h,
+        ap (λ y. get_elem? y l.first) s.all ∙ behind s.gone l.list.items l.first (omega arith)
+            ∙ ap (λ y. get_elem? y (l.first - length s.gone)) is
+            ∙ ap (get_elem? (h ∷ rest)) (let z : l.first - length s.gone ≡ 0 = omega arith in z),
+        (freed, tells),
+      )
 
   pub taken_out : (r : Option (Fates T)) (hs before : List (Home T)) (l m : Homes T) → Stands hs l → hs ≡ before
-      → IfSome r (λ f. (gs : List (Home T)) → Stands gs l → Stands gs m × IsFateOf gs f × (told_of m ≡ suc f.segment))
-      → IfNone r ((m.audit.kept.items ≡ []) × ((gs : List (Home T)) → Stands gs l → Stands gs m))
+      → ((gs : List (Home T)) → Stands gs l → Stands gs m)
+      → IfSome r (λ f. (gs : List (Home T)) → Stands gs l → IsFateOf gs f × (m.first ≡ f.segment + 1))
       → Stands before m × IsTaken before m r
-  taken_out (Some f) hs before l m s same some_ none_ = let x = some_ before (subst (λ x. Stands x l) same s) in
-      (x.0, (x.1, x.2))
-  taken_out None hs before l m s same some_ none_ = (none_.1 before (subst (λ x. Stands x l) same s), none_.0)
+  taken_out (Some f) hs before l m s same stands some_ = let s' = subst (λ x. Stands x l) same s in
+      (stands before s', some_ before s')
+  taken_out None hs before l m s same stands some_ = (stands before (subst (λ x. Stands x l) same s), tt)
 
   -- ---- they are told
   pub unlocks_taken : (told : Option (Fates T)) (slots id : ℕ) (me : Sat T) → me.0.live ≡ true → me.0.holds ≡ true

@@ -7,8 +7,8 @@ use native.Mathlib.Decide.{dec_le}
 use mathlib.Core.Option.{some, some-ne-none}
 use lib.ListN.{get_elem?}
 use Rattle.atomic_table.proofs.Lists.{at_longer}
-use Rattle.mb_channel.specs.Types.{Audit, Home, Homes}
-use Rattle.mb_channel.specs.Homes.{AllHomes, At, Changes, IsBusy, IsFreed, IsNew, IsNext, KeepsFates, Longer, Stands, out_of}
+use Rattle.mb_channel.specs.Types.{Home, Homes}
+use Rattle.mb_channel.specs.Homes.{AllHomes, At, Changes, IsBusy, IsFreed, IsNew, IsNext, Longer, Stands, out_of}
 use Rattle.mb_channel.specs.Tallies.{GoesOnTo}
 
 module _ {A : Type 0} where
@@ -140,12 +140,8 @@ module _ {T : Type 0} where
       (λ (x : (length hs ≡ k) × IsNext hs k). let y = x.0 in absurd (omega arith)) on
 
   -- ---- the list changes
-  pub kept_still : (gone : List (Home T)) (l m : Homes T) → m.audit ≡ l.audit → KeepsFates gone l.audit
-      → KeepsFates gone m.audit
-  kept_still gone l m same = subst (λ (a : Audit T). KeepsFates gone a) (sym same)
-
   stands_set : (hs : List (Home T)) (l m : Homes T) (k : ℕ) (g : Home T) → Stands hs l → l.first ≤ k
-      → m.list.items ≡ slice_set l.list.items (k - l.first) g → (m.first ≡ l.first) × (m.audit ≡ l.audit)
+      → m.list.items ≡ slice_set l.list.items (k - l.first) g → (m.first ≡ l.first) × (m.audited ≡ l.audited)
       → Stands (slice_set hs k g) m
   stands_set hs l m k g s le is same = let number = s.number in record {
     gone = s.gone;
@@ -153,22 +149,20 @@ module _ {T : Type 0} where
         ∙ ap (λ n. s.gone ++ slice_set l.list.items (k - n) g) s.number ∙ ap (λ x. s.gone ++ x) (sym is);
     number = s.number ∙ sym same.0;
     freed = s.freed;
-    fates = kept_still s.gone l m same.1 s.fates;
   }
 
   pub stands_same : (hs : List (Home T)) (l m : Homes T) → Stands hs l → m.list.items ≡ l.list.items
-      → (m.first ≡ l.first) × (m.audit ≡ l.audit) → Stands hs m
+      → (m.first ≡ l.first) × (m.audited ≡ l.audited) → Stands hs m
   stands_same hs l m s is same = record {
     gone = s.gone;
     all = s.all ∙ ap (λ x. s.gone ++ x) (sym is);
     number = s.number ∙ sym same.0;
     freed = s.freed;
-    fates = kept_still s.gone l m same.1 s.fates;
   }
 
   -- one segment of the list changed
   pub changes_all : (hs : List (Home T)) (l m : Homes T) (k : ℕ) (P : Home T → Home T → Type 0) → Stands hs l
-      → l.first ≤ k → Changes l.list.items m.list.items (k - l.first) P → (m.first ≡ l.first) × (m.audit ≡ l.audit)
+      → l.first ≤ k → Changes l.list.items m.list.items (k - l.first) P → (m.first ≡ l.first) × (m.audited ≡ l.audited)
       → (gs : List (Home T)) × Stands gs m × Changes hs gs k P
   changes_all hs l m k P s le c same = (
     slice_set hs k c.1,
@@ -177,38 +171,35 @@ module _ {T : Type 0} where
   )
 
   stands_more : (hs : List (Home T)) (l m : Homes T) (h : Home T) → Stands hs l → m.list.items ≡ l.list.items ++ h ∷ []
-      → (m.first ≡ l.first) × (m.audit ≡ l.audit) → Stands (hs ++ h ∷ []) m
+      → (m.first ≡ l.first) × (m.audited ≡ l.audited) → Stands (hs ++ h ∷ []) m
   stands_more hs l m h s is same = record {
     gone = s.gone;
     all = ap (λ x. x ++ h ∷ []) s.all ∙ append_assoc s.gone l.list.items (h ∷ []) ∙ ap (λ x. s.gone ++ x) (sym is);
     number = s.number ∙ sym same.0;
     freed = s.freed;
-    fates = kept_still s.gone l m same.1 s.fates;
   }
 
   pub stands_freed : (hs : List (Home T)) (l m : Homes T) (h : Home T) (s : Stands hs l)
-      → l.list.items ≡ h ∷ m.list.items → IsFreed h → m.first ≡ l.first + 1 → KeepsFates (s.gone ++ h ∷ []) m.audit
-      → Stands hs m
-  stands_freed hs l m h s is done more fates = let number = s.number in
+      → l.list.items ≡ h ∷ m.list.items → IsFreed h → m.first ≡ l.first + 1 → Stands hs m
+  stands_freed hs l m h s is done more = let number = s.number in
       let n = length-append s.gone (h ∷ []) in record {
-    gone = s.gone ++ h ∷ [];
-    all = s.all ∙ ap (λ x. s.gone ++ x) is ∙ sym (append_assoc s.gone (h ∷ []) m.list.items);
-    number = omega arith;
-    freed = all_snoc IsFreed s.gone h s.freed done;
-    fates = fates;
-  }
+        gone = s.gone ++ h ∷ [];
+        all = s.all ∙ ap (λ x. s.gone ++ x) is ∙ sym (append_assoc s.gone (h ∷ []) m.list.items);
+        number = omega arith;
+        freed = all_snoc IsFreed s.gone h s.freed done;
+      }
 
   pub longer_of : {E : Type 0} (r : Result (Unit {0}) E) (n : ℕ) (hs : List (Home T)) (l m : Homes T) → Stands hs l
       → length hs ≡ n
       → IfOk r (λ _. (h : Home T) × IsNew h × (m.list.items ≡ l.list.items ++ h ∷ []))
-      → (m.first ≡ l.first) × (m.audit ≡ l.audit)
+      → (m.first ≡ l.first) × (m.audited ≡ l.audited)
       → (Q : Type 0) → ((gs : List (Home T)) → Stands gs m → Longer n hs gs → Q) → IfOk r (λ _. Q)
   longer_of (Ok u) n hs l m s long more first Q f =
       f (hs ++ more.0 ∷ []) (stands_more hs l m more.0 s more.2 first) (more.0, more.1, refl, long)
   longer_of (Err e) n hs l m s long more first Q f = tt
 
   pub same_of : {A E : Type 0} (r : Result A E) (hs : List (Home T)) (l m : Homes T) → Stands hs l
-      → OnErr r (m.list.items ≡ l.list.items) → (m.first ≡ l.first) × (m.audit ≡ l.audit) → (Q : Type 0)
+      → OnErr r (m.list.items ≡ l.list.items) → (m.first ≡ l.first) × (m.audited ≡ l.audited) → (Q : Type 0)
       → (Stands hs m → Q) → OnErr r Q
   same_of (Ok u) hs l m s same first Q f = tt
   same_of (Err e) hs l m s same first Q f = f (stands_same hs l m s same first)

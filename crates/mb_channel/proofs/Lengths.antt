@@ -12,7 +12,6 @@ use Rattle.mb_channel.specs.Homes.{Agrees, At, Changes, Grows, IsDone, IsNext, I
 use Rattle.mb_channel.specs.Homes.{is_in, locked, out_of, total, unlocked}
 use Rattle.mb_channel.specs.Lengths.{HasLooked, HasSummed, HaveLooked, and_length, chair_told, gives_length, sum_of, sum_to, told_length}
 use Rattle.mb_channel.proofs.Moves.{Lawful, busy_same, ended_stay, in_grows, led_grows, near_grows, next_grows, over_grows, still_told, unlocks_as}
-use Rattle.mb_channel.proofs.Freed.{kept_still}
 use Rattle.mb_channel.proofs.Views.{made_map, size_set}
 
 module _ {T : Type 0} where
@@ -87,7 +86,7 @@ module _ {T : Type 0} where
 
   -- ---- the list, with those that are freed
   pub stands_looked : (hs : List (Home T)) (l m : Homes T) → Stands hs l → HaveLooked l.list.items m.list.items
-      → (m.first ≡ l.first) × (m.audit ≡ l.audit) → (gs : List (Home T)) × Stands gs m × HaveLooked hs gs
+      → (m.first ≡ l.first) × (m.audited ≡ l.audited) → (gs : List (Home T)) × Stands gs m × HaveLooked hs gs
   stands_looked hs l m s a same = (
     s.gone ++ m.list.items,
     record {
@@ -95,7 +94,6 @@ module _ {T : Type 0} where
       all = refl;
       number = s.number ∙ sym same.0;
       freed = s.freed;
-      fates = kept_still s.gone l m same.1 s.fates;
     },
     subst (λ x. HaveLooked x (s.gone ++ m.list.items)) (sym s.all) (looked_behind s.gone l.list.items m.list.items a),
   )

@@ -1,8 +1,7 @@
 -- Whatever an account of a segment says, the log of an end says too.
-use Rattle.std.proofs.Common.{ℕ, zero, suc, Bool, true, false, true≢false, List, [], length, nat_eq, sym, refl, ap, subst, inl, inr, ⊎_elim, arith, eqb-true}
-use Rattle.std.proofs.Common.{◌≡◌, ◌+◌, ◌<◌, ◌≤◌, ◌⊎◌, ◌∷◌, ◌++◌, ◌∙◌, if◌then◌else◌}
-use Rattle.std.specs.Prelude.{None, Some, map}
-use native.Mathlib.Decide.{ℕ_discrete}
+use Rattle.std.proofs.Common.{ℕ, zero, suc, Bool, true, false, List, [], length, nat_eq, sym, refl, ap, subst, inl, inr, ⊎_elim, arith, eqb-true}
+use Rattle.std.proofs.Common.{◌≡◌, ◌+◌, ◌<◌, ◌≤◌, ◌∷◌, ◌++◌, ◌∙◌, if◌then◌else◌}
+use Rattle.std.specs.Prelude.{Some, map}
 use mathlib.Core.Option as maybe
 use mathlib.Core.Option.{none, some, some-injective, some-ne-none}
 use lib.ListN.{get_elem?}
@@ -10,7 +9,7 @@ use Rattle.atomic_table.specs.Table.{State}
 use Rattle.mb_segment.specs.Vocabulary.{Has, OfFate, name_in}
 use Rattle.mb_channel.specs.Types.{Account, Fates, Homes, Knows, Past, Position, Visit}
 use Rattle.mb_channel.specs.Deeds.{Deed, deed}
-use Rattle.mb_channel.specs.Homes.{AllPast, AreNamed, Fits, Keeps, Made, PastFits, came_back, count, made_by, made_count, made_in, past_count, past_of, times, total}
+use Rattle.mb_channel.specs.Homes.{AllPast, AreNamed, Keeps, Made, PastFits, came_back, count, made_by, made_count, made_in, past_count, past_of, times, total}
 use Rattle.mb_channel.specs.Inside.{Log, in_visits, log_of_past}
 use Rattle.mb_channel.specs.Fates.{IsFateOf, IsLog, IsOneOf, is_fate}
 use Rattle.mb_channel.specs.Owned.{Fate, IsOwned}
@@ -222,11 +221,11 @@ module _ {T : Type 0} where
           told.sender sent.0 sent.1 sent.3 sent.2 sent.4 ∙ ap name_in (sym a.2),
         ),
         ⊎_elim (λ n. inl n) (λ got.
-        let b = owned s k f.segment got.0 got.1 (ap (λ l. get_elem? l got.0) (sym here) ∙ got.2) in inr (
-          b.0,
-          got.3,
-          b.1,
-          b.4 at got.3 got.4,
-          told.receiver got.0 got.1 got.3 got.2 got.4 ∙ ap name_in (sym b.2),
-        )) told.got,
+            let b = owned s k f.segment got.0 got.1 (ap (λ l. get_elem? l got.0) (sym here) ∙ got.2) in inr (
+              b.0,
+              got.3,
+              b.1,
+              b.4 at got.3 got.4,
+              told.receiver got.0 got.1 got.3 got.2 got.4 ∙ ap name_in (sym b.2),
+            )) told.got,
       )

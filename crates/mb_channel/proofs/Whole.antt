@@ -5,7 +5,7 @@ use mathlib.Core.Option.{some, some-injective, some-ne-none}
 use lib.ListN.{get_elem?}
 use Rattle.atomic_table.specs.Table.{State, opening, Final, Seen}
 use Rattle.mb_channel.specs.Types.{Home, Homes, Knows, Past}
-use Rattle.mb_channel.specs.Homes.{AreFates, Falls, Fits, IsNone, IsWhole, Keeps, Made, PastFits, Stands, FitsEnd}
+use Rattle.mb_channel.specs.Homes.{Falls, Fits, IsNone, IsWhole, Keeps, Made, PastFits, Stands, FitsEnd}
 use Rattle.mb_channel.specs.Homes.{count, first_view, how_many, is_in, made_by, made_count, out_of, past_count, past_of}
 use Rattle.mb_channel.specs.Homes.{rights, times, total}
 use Rattle.mb_channel.proofs.Freed.{all_homes}
@@ -25,9 +25,9 @@ module _ {T : Type 0} where
   first_is zero v at = sym (some-injective first_view v at)
   first_is (suc id) v at = absurd (some-ne-none v (sym at))
 
-  pub opens : (l : Homes T) → l.list.items ≡ [] → l.first ≡ 0 → l.audit.kept.items ≡ []
+  pub opens : (l : Homes T) → l.list.items ≡ [] → l.first ≡ 0
       → Keeps (opening (0 ∷ 1 ∷ 1 ∷ 1 ∷ 1 ∷ []) (l ∷ []) first_view)
-  opens l is none_freed none_kept = record {
+  opens l is none_freed = record {
     homes = [];
     all = [];
     mark = 1;
@@ -40,7 +40,6 @@ module _ {T : Type 0} where
         all = sym is;
         number = sym none_freed;
         freed = tt;
-        fates = ([], [], refl, subst (λ xs. AreFates [] xs) (sym none_kept) tt, λ _. none_kept);
       },
       λ id v at. ap (λ (z : Knows T). z.holds) (first_is id v at),
     );

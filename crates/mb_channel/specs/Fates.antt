@@ -1,6 +1,5 @@
 -- Fates: who sent and who received each value in a segment that was freed, and an end that is told them.
-use Rattle.std.specs.Prelude.{ℕ, suc, ◌≡◌, ◌⊎◌, ◌-◌, ◌<◌, List, [], ◌∷◌, length, map, None, Option, Some, true}
-use Rattle.std.specs.VecDeque.{deque_capacity, deque_len}
+use Rattle.std.specs.Prelude.{ℕ, ◌≡◌, ◌+◌, ◌⊎◌, List, [], ◌∷◌, map, None, Option, Some, true}
 use mathlib.Core.Option.{some}
 use lib.ListN.{get_elem?}
 use Rattle.atomic_table.specs.Table.{Step}
@@ -9,8 +8,7 @@ use Rattle.mb_segment.specs.Vocabulary.{fate_in, name_in}
 use Rattle.mb_segment.specs.declared.left.Fate.{Fate}
 use Rattle.mb_channel.specs.declared.auditing.Audited.{Audited}
 use Rattle.mb_channel.specs.declared.auditing.Audited.TheVariants as audited
-use Rattle.mb_channel.specs.Deeds.{Deed}
-use Rattle.mb_channel.specs.Types.{Audit, Fates, Home, Homes, Knows}
+use Rattle.mb_channel.specs.Types.{Fates, Home, Homes, Knows}
 use Rattle.mb_channel.specs.Homes.{At, IsFreed, Sat, Stands, came_back, past_of, unlocked}
 use Rattle.mb_channel.specs.Inside.{Log, log_of_past}
 use Rattle.mb_channel.specs.Visits.{TellsFates}
@@ -18,31 +16,15 @@ use Rattle.mb_channel.specs.Visits.{TellsFates}
 abbrev pub is_fate : {T : Type 0} → Fates T → ℕ → Option Fate
 is_fate f at = fate_in f.left at
 
--- how many segments were freed whose fates are told, or were not kept
-abbrev pub told_of : {T : Type 0} → Homes T → ℕ
-told_of l = l.first - length l.audit.kept.items
-
--- the same, with the same fates
-abbrev pub IsSameAudit : {T : Type 0} → Audit T → Audit T → Type 0
-IsSameAudit a b = (b.is_on ≡ a.is_on) × (b.kept.items ≡ a.kept.items)
-
--- there is room for the fates in one segment more, if they are to be kept
-abbrev pub HasRoom : {T : Type 0} → Audit T → Type 0
-HasRoom a = a.is_on ≡ true → deque_len a.kept < deque_capacity a.kept
-
--- if the channel is audited, it still is, and the fates in each segment that was freed meanwhile are kept
-abbrev pub LosesNone : {T : Type 0} → Homes T → Homes T → Type 0
-LosesNone l m = (m.audit.is_on ≡ l.audit.is_on) × (l.audit.is_on ≡ true → told_of m ≡ told_of l)
-
 -- these are the fates in their segment, which is freed
 abbrev pub IsFateOf : {T : Type 0} → List (Home T) → Fates T → Type 0
 IsFateOf hs f = At hs f.segment (λ h. IsFreed h × TellsFates f.left (came_back h))
 
 -- ---- what an end is told
--- the fates in the oldest segment that was not told were taken out of the list, or none are kept there
+-- the fates were taken out of the list, where their segment was the oldest, or none were
 abbrev pub IsTaken : {T : Type 0} → List (Home T) → Homes T → Option (Fates T) → Type 0
-IsTaken hs l None = l.audit.kept.items ≡ []
-IsTaken hs l (Some f) = IsFateOf hs f × (told_of l ≡ suc f.segment)
+IsTaken hs l None = Unit {0}
+IsTaken hs l (Some f) = IsFateOf hs f × (l.first ≡ f.segment + 1)
 
 -- a seat has the list, out of which this was taken
 abbrev pub HasTaken : {T : Type 0} → List (Home T) → Option (Fates T) → List (ℕ × Homes T) → Type 0

@@ -6,7 +6,7 @@ use mathlib.Core.Option.{some, none}
 use lib.ListN.{get_elem?}
 use Rattle.atomic_table.specs.Table.{Allows, Me, State, Step, step}
 use Rattle.atomic_table.specs.declared.shared.Seat.{Seat}
-use Rattle.mb_channel.specs.Types.{Account, Arc, Audit, Global, Home, Homes, Knows, Left, Pass, Past, Segment, View, Visit, arc_value}
+use Rattle.mb_channel.specs.Types.{Account, Arc, Global, Home, Homes, Knows, Pass, Past, Segment, View, arc_value}
 use Rattle.mb_channel.specs.Remembers.{Remembers}
 pub use Rattle.mb_channel.specs.Visits.{AllMade, AllPast, AreNamed, Falls, HasNames, Made, TellsFates, made_by, made_in}
 use Rattle.mb_segment.specs.Vocabulary.{IsWhole as SegmentIsWhole, hub_view, is_over, issued, new_hub, took_back}
@@ -37,25 +37,12 @@ abbrev pub AllHomes : {T : Type 0} → (Home T → Type 0) → List (Home T) →
 AllHomes P [] = Unit {0}
 AllHomes P (h ∷ hs) = P h × AllHomes P hs
 
--- in these segments the values had these fates
-abbrev pub AreFates : {T : Type 0} → List (Home T) → List (Left T Global) → Type 0
-AreFates [] [] = Unit {0}
-AreFates [] (x ∷ xs) = ⊥
-AreFates (h ∷ hs) [] = ⊥
-AreFates (h ∷ hs) (x ∷ xs) = TellsFates x (came_back h) × AreFates hs xs
-
--- of these segments, the fates in the last are kept, or in none if the channel is not audited
-abbrev pub KeepsFates : {T : Type 0} → List (Home T) → Audit T → Type 0
-KeepsFates {T} gone a = (told : List (Home T)) × (last : List (Home T)) × (gone ≡ told ++ last)
-    × AreFates last a.kept.items × (a.is_on ≡ false → a.kept.items ≡ [])
-
 -- of all segments that there ever were, the oldest are freed, and the others are in the list
 pub record Stands {T : Type 0} (hs : List (Home T)) (l : Homes T) : Type 0 where
   pub gone : List (Home T)
   pub all : hs ≡ gone ++ l.list.items
   pub number : length gone ≡ l.first
   pub freed : AllHomes IsFreed gone
-  pub fates : KeepsFates gone l.audit
 
 -- segment k is there, and P holds of it
 abbrev pub At : {T : Type 0} → List (Home T) → ℕ → (Home T → Type 0) → Type 0

@@ -3,7 +3,7 @@ use Rattle.std.specs.Prelude.{ℕ, ◌≡◌, ◌⊎◌, List, None}
 use Rattle.mb_segment.specs.Vocabulary.{name_in}
 pub use Rattle.mb_segment.specs.declared.left.Fate.{Fate}
 pub use Rattle.mb_channel.specs.declared.place.Place.{Place}
-pub use Rattle.mb_channel.specs.Fates.{HasTaken, IsFateOf, IsTaken, IsTrue, LosesNone, gives_fates, is_fate, told_fates, told_of}
+pub use Rattle.mb_channel.specs.Fates.{HasTaken, IsFateOf, IsTaken, IsTrue, gives_fates, is_fate, told_fates}
 use Rattle.mb_channel.specs.Types.{Knows}
 use Rattle.mb_channel.specs.Inside.{Log}
 pub use Rattle.mb_channel.specs.Fates.{IsLog, IsOneOf}

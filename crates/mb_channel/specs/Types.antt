@@ -9,7 +9,6 @@ pub use Rattle.mb_segment.specs.declared.view.Spot.{Spot as Position}
 pub use Rattle.mb_segment.specs.declared.view.View.{View}
 pub use Rattle.mb_segment.specs.declared.left.Left.{Left}
 pub use Rattle.mb_channel.specs.declared.home.Home.{Home}
-pub use Rattle.mb_channel.specs.declared.home.Audit.{Audit}
 pub use Rattle.mb_channel.specs.declared.home.Fates.{Fates}
 pub use Rattle.mb_channel.specs.declared.home.Homes.{Homes}
 pub use Rattle.mb_channel.specs.declared.rest.Ending.{Ending}

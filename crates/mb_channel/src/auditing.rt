@@ -18,9 +18,9 @@ use std::marker::Brand;
 /// What came of a try to take fates.
 #[derive(Drop)]
 pub enum Audited<T: Drop> {
-    /// Those of one segment. They are told once, and in the order of the segments.
+    /// Those of the oldest segment, which is freed now. Segments are freed in their order, each once.
     Told(Fates<T>),
-    /// All fates in segments that are freed are told, or the channel is not audited.
+    /// No segment can be freed now.
     Nothing,
     /// The lock is taken. Yield, and try again.
     Again,
@@ -70,7 +70,7 @@ impl<T: Drop> List<T> {
         self.table.shared.store::<GivesFates<F>>(chair, 0, 0);
     }
 
-    /// Takes out the fates in the oldest segment that was freed and is not told.
+    /// Frees the oldest segment, if it can be freed, and takes out its fates.
     pub fn fates(&self, chair: &mut Chair<T>) -> Audited<T>
         requires list { chair.old.table_id ≡ self.now.table.shared.table_id }
         requires ready { IsReady chair.old.me }
@@ -97,9 +97,9 @@ impl<T: Drop> End<T> {
 }
 
 impl<T: Drop> Sender<T> {
-    /// Takes out the fates in the oldest segment that was freed and is not told. A segment is freed once all its values
-    /// were received, and the ends have left it. It never waits. The sender keeps the answer among its `fates`, and stays
-    /// as it is otherwise.
+    /// Frees the oldest segment, and takes out its fates. It can be freed once all its values were received and the ends
+    /// have left it. In an audited channel no other call frees segments. It never waits. The sender keeps the answer among
+    /// its `fates`, and stays as it is otherwise.
     pub fn try_fates(&mut self) -> Audited<T>
         ensures told { self.new.end ≡ end_after result self.old.end }
     {

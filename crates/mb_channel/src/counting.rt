@@ -38,7 +38,7 @@ impl<T: Drop> Home<T> {
 impl<T: Drop> Homes<T> {
     fn taken_at(&mut self, at: usize) -> u64
         requires there { at < length self.old.list.items }
-        ensures first { (self.new.first ≡ self.old.first) × (self.new.audit ≡ self.old.audit) }
+        ensures first { (self.new.first ≡ self.old.first) × (self.new.audited ≡ self.old.audited) }
         ensures taken { Changes self.old.list.items self.new.list.items at
             (λ h g. HasLooked h g × (result ≡ taken_there g)) }
         ensures drawn { Changes self.old.list.items self.new.list.items at
@@ -49,7 +49,7 @@ impl<T: Drop> Homes<T> {
 
     fn drawn_at(&mut self, at: usize) -> u64
         requires there { at < length self.old.list.items }
-        ensures first { (self.new.first ≡ self.old.first) × (self.new.audit ≡ self.old.audit) }
+        ensures first { (self.new.first ≡ self.old.first) × (self.new.audited ≡ self.old.audited) }
         ensures drawn { Changes self.old.list.items self.new.list.items at
             (λ h g. HasLooked h g × (result ≡ drawn_there g)) }
     {
@@ -58,7 +58,7 @@ impl<T: Drop> Homes<T> {
 
     /// How many positions are claimed in the segments of the list. It is `None` if they cannot be counted.
     fn taken(&mut self) -> Option<u64>
-        ensures first { (self.new.first ≡ self.old.first) × (self.new.audit ≡ self.old.audit) }
+        ensures first { (self.new.first ≡ self.old.first) × (self.new.audited ≡ self.old.audited) }
         ensures looked { HaveLooked self.old.list.items self.new.list.items }
         ensures taken { IfSome result (λ n. n ≡ sum_of taken_there self.new.list.items) }
         ensures drawn { sum_of drawn_there self.new.list.items
@@ -73,7 +73,7 @@ impl<T: Drop> Homes<T> {
 
     /// The same of the positions that are drawn.
     fn drawn(&mut self) -> Option<u64>
-        ensures first { (self.new.first ≡ self.old.first) × (self.new.audit ≡ self.old.audit) }
+        ensures first { (self.new.first ≡ self.old.first) × (self.new.audited ≡ self.old.audited) }
         ensures looked { HaveLooked self.old.list.items self.new.list.items }
         ensures drawn { IfSome result (λ n. n ≡ sum_of drawn_there self.new.list.items) }
     {
@@ -88,7 +88,7 @@ impl<T: Drop> Homes<T> {
     /// the same. All segments but the last are over, so just so many waited at the load of the last one's number drawn.
     /// It is `None` if others claimed meanwhile.
     fn waiting_now(&mut self) -> Option<u64>
-        ensures first { (self.new.first ≡ self.old.first) × (self.new.audit ≡ self.old.audit) }
+        ensures first { (self.new.first ≡ self.old.first) × (self.new.audited ≡ self.old.audited) }
         ensures looked { HaveLooked self.old.list.items self.new.list.items }
         ensures waiting { IfSome result (λ n. AreWaiting self.new n) }
     {
@@ -102,7 +102,7 @@ impl<T: Drop> Homes<T> {
 
     /// The same, with a few tries.
     fn waiting(&mut self) -> Option<u64>
-        ensures first { (self.new.first ≡ self.old.first) × (self.new.audit ≡ self.old.audit) }
+        ensures first { (self.new.first ≡ self.old.first) × (self.new.audited ≡ self.old.audited) }
         ensures looked { HaveLooked self.old.list.items self.new.list.items }
         ensures waiting { IfSome result (λ n. AreWaiting self.new n) }
     {

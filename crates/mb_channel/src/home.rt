@@ -33,16 +33,8 @@ pub struct Homes<T: Drop> {
     /// How many are freed.
     pub(crate) first: usize,
     pub(crate) list: VecDeque<Home<T>, Global>,
-    pub(crate) audit: Audit<T>,
-}
-
-/// What a list keeps of the segments that are freed.
-#[derive(Drop)]
-pub struct Audit<T: Drop> {
-    /// Whether the channel is audited.
-    pub(crate) is_on: bool,
-    /// The fates in those that were freed last, the oldest first. The fates in those before were told, or not kept.
-    pub(crate) kept: VecDeque<Left<T>, Global>,
+    /// Whether the channel is audited: a segment is freed only by an end that takes its fates out.
+    pub(crate) audited: bool,
 }
 
 /// Who sent and who received each value of a segment that was freed.

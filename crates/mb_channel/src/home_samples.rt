@@ -1,14 +1,14 @@
 //! Samples of the list's definitions: what they admit, and what only looks right. The functions compute nothing: their
 //! contracts are the samples.
-ghost use Rattle.std.specs.Prelude.{List, None, Option, Some, length, ℕ, [], false, true, ◌+◌, ◌<◌, ◌++◌, ◌∷◌, ◌≡◌};
+ghost use Rattle.std.specs.Prelude.{List, None, Option, Some, length, ℕ, [], false, true, ◌<◌, ◌++◌, ◌∷◌, ◌≡◌};
 ghost use Rattle.atomic_table.specs.Table.{Step};
 ghost use Rattle.mb_segment.specs.SegmentSamples.{overslept, unused};
 ghost use Rattle.mb_channel.specs.Closing.{AreStates, KnowsEnd, NoneWaits};
 ghost use Rattle.mb_channel.specs.Deeds.{IsUpTo, OneMore, deed};
 ghost use Rattle.mb_channel.specs.Ends.{IsBehind, IsLater, Standing, end_told, log_of};
-ghost use Rattle.mb_channel.specs.Fates.{IsTrue, LosesNone, gives_fates};
+ghost use Rattle.mb_channel.specs.Fates.{IsTrue, gives_fates};
 ghost use Rattle.mb_channel.specs.HomeSamples.{adder, fate, given_twice, last_of_two, one_take, one_visit, place, returner, seven, told_none};
-ghost use Rattle.mb_channel.specs.Homes.{Agrees, Fits, FitsEnd, HasIssued, HasNames, KeepsFates, HasTakenBack, IsDone, IsFreed, IsNew, IsOver, IsWhole, MayLeave, Stands};
+ghost use Rattle.mb_channel.specs.Homes.{Agrees, Fits, FitsEnd, HasIssued, HasNames, HasTakenBack, IsDone, IsFreed, IsNew, IsOver, IsWhole, MayLeave, Stands};
 ghost use Rattle.mb_channel.specs.Homes.{Made, Sat, came_back, first_view, out_of, spent_view};
 ghost use Rattle.mb_channel.specs.Inside.{known_there};
 ghost use Rattle.mb_channel.specs.Lengths.{AreWaiting, HasSummed, HaveLooked, drawn_there, gives_length, taken_there};
@@ -18,13 +18,13 @@ ghost use Rattle.mb_channel.specs.Tallies.{GoesOnTo};
 ghost use Rattle.mb_channel.specs.Told.{KeepsOrder};
 ghost use Rattle.mb_channel.specs.Wakes.{wakes_of};
 ghost use Rattle.mb_channel.specs.declared.end.End.{End};
-ghost use Rattle.mb_channel.specs.Types.{Arc, Audit, Fates, Global, Home, Homes, Knows, Left, Pass, Segment, View};
+ghost use Rattle.mb_channel.specs.Types.{Arc, Fates, Global, Home, Homes, Knows, Pass, Segment, View};
 
 /// All segments that there ever were. Admitted: one that was freed, before those in the list. Refused: one that was
 /// freed before it was done, and one that is neither freed nor in the list.
 pub fn sample_standing()
     ensures freed { (h : Home ℕ) (l : Homes ℕ) → IsFreed h → l.first ≡ 1
-        → KeepsFates (h ∷ []) l.audit → Stands (h ∷ l.list.items) l }
+        → Stands (h ∷ l.list.items) l }
     ensures undone { (h : Home ℕ) (l : Homes ℕ) → (IsDone h → ⊥) → l.first ≡ 1
         → Stands (h ∷ l.list.items) l → ⊥ }
     ensures lost { (h : Home ℕ) (l : Homes ℕ) → l.first ≡ 0
@@ -175,22 +175,14 @@ pub fn sample_waiting()
         → drawn_there h ≡ 64 → taken_there h ≡ 30 → AreWaiting l 35 → ⊥ }
     ensures looked { (h : Home ℕ) → HaveLooked (h ∷ []) (h ∷ []) }
     ensures added { (h g : Home ℕ) → HaveLooked (h ∷ []) (h ∷ g ∷ []) → ⊥ }
-    ensures had { (l : Homes ℕ) → l.first ≡ 0 → KeepsFates [] l.audit → AreWaiting l 7
+    ensures had { (l : Homes ℕ) → l.first ≡ 0 → AreWaiting l 7
         → HasSummed l.list.items (Some 7) ((0, l) ∷ []) }
     ensures given { (hs : List (Home ℕ)) → HasSummed hs (Some 7) [] → ⊥ }
 {}
 
-/// A segment is freed. In a channel that is audited its fates are kept: refused is one whose fates are lost, and that
-/// fates are kept in a channel that is not audited. End 0, of name 7, sent 10 to segment 0. Admitted: a fate with that
-/// name. Refused: a fate with another name, a visit under another name, and an end that is told fates and keeps the lock.
+/// Names. End 0, of name 7, sent 10 to segment 0. Admitted: a fate with that name. Refused: a fate with another name, a
+/// visit under another name, and an end that is told fates and keeps the lock.
 pub fn sample_fates()
-    ensures kept { (l m : Homes ℕ) (x : Left ℕ Global) → m.audit.is_on ≡ l.audit.is_on
-        → l.audit.kept.items ≡ [] → m.first ≡ l.first + 1 → m.audit.kept.items ≡ x ∷ []
-        → LosesNone l m }
-    ensures lost { (l m : Homes ℕ) → l.audit.is_on ≡ true → l.audit.kept.items ≡ []
-        → m.first ≡ l.first + 1 → m.audit.kept.items ≡ [] → LosesNone l m → ⊥ }
-    ensures off { (h : Home ℕ) (a : Audit ℕ) (x : Left ℕ Global) → a.is_on ≡ false
-        → a.kept.items ≡ x ∷ [] → KeepsFates (h ∷ []) a → ⊥ }
     ensures right { IsTrue (seven ∷ []) 0 0 (fate 7) }
     ensures wrong { IsTrue (seven ∷ []) 0 0 (fate 8) → ⊥ }
     ensures named { HasNames seven }

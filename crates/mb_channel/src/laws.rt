@@ -119,8 +119,8 @@ pub fn length_is_true<T: Drop>()
     mb_segment::laws::knowledge_is_true::<T>();
 }
 
-/// Of the moment at which an end is told fates, or that none are kept: it gives the channel's list back, out of which they
-/// were taken. They are those in a segment that is freed. A fate names any end whose log has its value, and there is one.
+/// Of the moment at which an end is told fates, or none: it gives the channel's list back, out of which they were taken.
+/// They are those in a segment that is freed. A fate names any end whose log has its value, and there is one.
 pub fn fates_are_true<T: Drop>()
     ensures list { (c : ListState T) (k : Keeps c) (id r : ℕ) (told : Option (Fates T))
         (s : Step (Homes T)) (v w : Sat T)

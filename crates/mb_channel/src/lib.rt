@@ -75,7 +75,7 @@ pub use departing::{Cutter, Departing};
 pub use drawing::{Drawing, Drawn};
 pub use end::{Receiver, Sender};
 pub use held::{Held, Stored};
-pub use home::{Audit, Fates, Home, Homes, Shared};
+pub use home::{Fates, Home, Homes, Shared};
 pub use kept::KeptSender;
 pub use making::{audited, unbounded};
 pub use place::Place;

@@ -206,7 +206,7 @@ fn size_at(at: usize) -> u32 {
 
 fn no_homes<T: Drop>(alloc: Global, audited: bool) -> Result<Vec<Homes<T>>, AllocError>
     ensures { IfOk result (λ v. (l : Homes T) × (v.items ≡ l ∷ []) × (l.list.items ≡ [])
-        × (l.first ≡ 0) × (l.audit.kept.items ≡ [])) }
+        × (l.first ≡ 0)) }
 {
     let mut homes = Vec::new(alloc);
     homes.push(Homes::none(alloc, audited))?;

@@ -216,8 +216,8 @@ pub fn unbounded<T: Drop>(alloc: Global) -> Result<(Sender<T>, Receiver<T>), All
     make(alloc, 0, 0, false)
 }
 
-/// A channel that keeps the fates of its values until an end takes them, by [`Sender::try_fates`]. Its first sender and
-/// its first receiver have these names. An end that has 0 has no name, and neither do its fates.
+/// A channel that keeps its segments until an end takes their fates, by [`Sender::try_fates`]. Its first sender and its
+/// first receiver have these names. An end that has 0 has no name, and neither do its fates.
 pub fn audited<T: Drop>(
     alloc: Global,
     sender: u32,

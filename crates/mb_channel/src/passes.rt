@@ -1,14 +1,14 @@
 //! Passes of the segments in the list: the hubs issue them and take them back.
-ghost use Rattle.std.specs.Prelude.{suc, ◌≡◌, ◌<◌, ◌≤◌, ◌+◌, ◌-◌, length, true, IfOk, IfErr, IfSome, OnErr, IfNone, ◌++◌, ◌∷◌, [], List};
+ghost use Rattle.std.specs.Prelude.{◌≡◌, ◌<◌, ◌≤◌, ◌+◌, ◌-◌, length, true, IfOk, IfErr, IfSome, OnErr, IfNone, ◌++◌, ◌∷◌, [], List};
 ghost use Rattle.mb_segment.specs.Seats.{view_in as pass_view};
 ghost use Rattle.mb_segment.specs.Vocabulary.{HasLeft, IsFree, IsWhole as SegmentIsWhole, named};
-ghost use Rattle.mb_channel.specs.Homes.{At, Changes, HasIssued, HasTakenBack, IsDone, IsFreed, IsNew, KeepsFates, Stands, came_back, out_of};
-ghost use Rattle.mb_channel.specs.Fates.{HasRoom, IsFateOf, IsSameAudit, LosesNone, told_of};
+ghost use Rattle.mb_channel.specs.Homes.{At, Changes, HasIssued, HasTakenBack, IsDone, IsFreed, IsNew, Stands, came_back, out_of};
+ghost use Rattle.mb_channel.specs.Fates.{IsFateOf};
 ghost use Rattle.mb_channel.specs.Visits.{TellsFates};
 ghost use Rattle.mb_channel.specs.Tallies.{GoesOnTo};
 ghost use Rattle.mb_channel.specs.declared.home.Home.{Home};
 
-use crate::home::{Audit, Fates, Home, Homes, Shared};
+use crate::home::{Fates, Home, Homes, Shared};
 use mb_segment::{Left, Pass, Segment};
 use std::alloc::{AllocError, Global};
 use std::collections::VecDeque;
@@ -103,41 +103,15 @@ impl<T: Drop> Home<T> {
     }
 }
 
-impl<T: Drop> Audit<T> {
-    /// Makes room for the fates in one segment more, if they are to be kept.
-    fn make_room(&mut self) -> bool
-        ensures room { result ≡ true → HasRoom self.new }
-        ensures same { IsSameAudit self.old self.new }
-    {
-        !self.is_on || self.kept.reserve(1).is_ok()
-    }
-
-    /// Keeps the fates in this segment, which is freed, if the channel is audited.
-    fn keep(&mut self, left: Left<T>)
-        requires room { HasRoom self.old }
-        ensures kept { (gone : List (Home T)) (h : Home T) → KeepsFates gone self.old
-            → TellsFates left (came_back h) → KeepsFates (gone ++ h ∷ []) self.new }
-        ensures on { (self.new.is_on ≡ self.old.is_on) × (self.old.is_on ≡ true
-            → length self.new.kept.items ≡ length self.old.kept.items + 1) }
-    {
-        if self.is_on {
-            self.kept.push_back_reserved(left);
-        }
-    }
-}
-
 impl<T: Drop> Homes<T> {
     /// No segment, in a channel that is audited or not.
     pub(crate) fn none(alloc: Global, audited: bool) -> Homes<T>
-        ensures { (result.list.items ≡ []) × (result.first ≡ 0) × (result.audit.kept.items ≡ []) }
+        ensures { (result.list.items ≡ []) × (result.first ≡ 0) }
     {
         Homes {
             first: 0,
             list: VecDeque::new(alloc),
-            audit: Audit {
-                is_on: audited,
-                kept: VecDeque::new(alloc),
-            },
+            audited,
         }
     }
 
@@ -151,7 +125,7 @@ impl<T: Drop> Homes<T> {
         requires over { over ≡ (pass_view pass).over }
         ensures list { Changes self.old.list.items self.new.list.items (at - self.old.first)
             (λ h g. HasTakenBack h g (pass_view pass) × (result ≡ g.done)) }
-        ensures first { (self.new.first ≡ self.old.first) × (self.new.audit ≡ self.old.audit) }
+        ensures first { (self.new.first ≡ self.old.first) × (self.new.audited ≡ self.old.audited) }
     {
         self.list[at - self.first].take_back(pass, over)
     }
@@ -174,7 +148,7 @@ impl<T: Drop> Homes<T> {
         ensures some { IfSome result (λ r. Changes self.old.list.items self.new.list.items at
             (λ h g. HasIssued h g r.0 r.1) × (pass_view r.1 ≡ named name) × IsFree r.1) }
         ensures none { IfNone result (self.new.list.items ≡ self.old.list.items) }
-        ensures first { (self.new.first ≡ self.old.first) × (self.new.audit ≡ self.old.audit) }
+        ensures first { (self.new.first ≡ self.old.first) × (self.new.audited ≡ self.old.audited) }
     {
         self.list[at].issue(name)
     }
@@ -184,7 +158,7 @@ impl<T: Drop> Homes<T> {
         ensures more { IfOk result (λ _. (h : Home T) × IsNew h
             × (self.new.list.items ≡ self.old.list.items ++ h ∷ [])) }
         ensures same { OnErr result (self.new.list.items ≡ self.old.list.items) }
-        ensures first { (self.new.first ≡ self.old.first) × (self.new.audit ≡ self.old.audit) }
+        ensures first { (self.new.first ≡ self.old.first) × (self.new.audited ≡ self.old.audited) }
     {
         self.list.reserve(1)?;
         let home = Home::new(alloc, size)?;
@@ -192,49 +166,67 @@ impl<T: Drop> Homes<T> {
         Ok(())
     }
 
-    /// Frees the oldest segment, if it is done and nobody has a pass or a share of it. If the channel is audited, its
-    /// fates are kept, and it stays if the allocator refuses the memory for them.
-    fn free_first(&mut self) -> bool
+    /// Frees the oldest segment, if it is done and nobody has a pass or a share of it, and gives out its fates.
+    fn free_first(&mut self) -> Option<Left<T>>
         ensures stands { (hs : List (Home T)) → Stands hs self.old → Stands hs self.new }
-        ensures fewer { result ≡ true → length self.new.list.items < length self.old.list.items }
-        ensures kept { LosesNone self.old self.new }
+        ensures fewer { IfSome result
+            (λ _. length self.new.list.items < length self.old.list.items) }
+        ensures fates { IfSome result (λ l. (hs : List (Home T)) → Stands hs self.old
+            → IsFateOf hs (record { segment = self.old.first; left = l })) }
+        ensures next { IfSome result (λ _. self.new.first ≡ self.old.first + 1) }
     {
-        if self.first >= usize::MAX || !self.audit.make_room() {
-            return false;
+        if self.first >= usize::MAX {
+            return None;
         }
         let Some(home) = self.list.pop_front() else {
-            return false;
+            return None;
         };
         match home.free() {
             Ok(left) => {
                 self.first += 1;
-                self.audit.keep(left);
-                true
+                Some(left)
             }
             Err(home) => {
                 self.list.push_front_reserved(home);
-                false
+                None
             }
         }
     }
 
-    /// Frees the oldest segments, while they are done and nobody has a pass or a share of them.
-    pub(crate) fn sweep(&mut self)
+    /// The same, and its fates are dropped.
+    fn drop_first(&mut self) -> bool
         ensures stands { (hs : List (Home T)) → Stands hs self.old → Stands hs self.new }
-        ensures kept { LosesNone self.old self.new }
+        ensures fewer { result ≡ true → length self.new.list.items < length self.old.list.items }
     {
-        while self.free_first() {}
+        match self.free_first() {
+            Some(left) => {
+                drop(left);
+                true
+            }
+            None => false,
+        }
     }
 
-    /// Takes out the fates in the oldest segment that was freed and is not told.
-    pub(crate) fn take_fates(&mut self) -> Option<Fates<T>>
-        ensures some { IfSome result (λ f. (hs : List (Home T)) → Stands hs self.old
-            → Stands hs self.new × IsFateOf hs f × (told_of self.new ≡ suc f.segment)) }
-        ensures none { IfNone result ((self.new.audit.kept.items ≡ [])
-            × ((hs : List (Home T)) → Stands hs self.old → Stands hs self.new)) }
+    /// Frees the oldest segments, while they are done and nobody has a pass or a share of them. In an audited channel it
+    /// frees none.
+    pub(crate) fn sweep(&mut self)
+        ensures stands { (hs : List (Home T)) → Stands hs self.old → Stands hs self.new }
+        ensures audited { self.old.audited ≡ true → self.new ≡ self.old }
     {
-        let segment = self.first.saturating_sub(self.audit.kept.len());
-        let Some(left) = self.audit.kept.pop_front() else {
+        if self.audited {
+            return;
+        }
+        while self.drop_first() {}
+    }
+
+    /// Frees the oldest segment, if it can be freed, and gives out its fates.
+    pub(crate) fn take_fates(&mut self) -> Option<Fates<T>>
+        ensures stands { (hs : List (Home T)) → Stands hs self.old → Stands hs self.new }
+        ensures some { IfSome result (λ f. (hs : List (Home T)) → Stands hs self.old
+            → IsFateOf hs f × (self.new.first ≡ f.segment + 1)) }
+    {
+        let segment = self.first;
+        let Some(left) = self.free_first() else {
             return None;
         };
         Some(Fates { segment, left })

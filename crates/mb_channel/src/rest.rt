@@ -31,9 +31,8 @@ impl<T: Drop> Ending<T> {
         let Homes {
             first: _,
             list,
-            audit,
+            audited: _,
         } = homes;
-        drop(audit);
         Ending {
             lefts: VecDeque::new(alloc),
             list,

@@ -98,7 +98,7 @@ impl<T> Taken<T> for Brand {
     ghost told = { None };
 }
 
-/// Gives the lock back, and tells fates or that none are kept.
+/// Gives the lock back, and tells fates or that there are none.
 pub struct GivesFates<F> {
     of: PhantomData<F>,
 }

@@ -58,6 +58,6 @@ pub struct Knows<T: Drop> {
     pub found: u64,
     /// The lengths that it was told, the newest first: how many values waited, as far as the hubs knew.
     pub lengths: LinkedList<u64>,
-    /// What it was told of fates, the newest first: those in a segment, or that none are kept.
+    /// What it was told of fates, the newest first: those in a segment, or none.
     pub fates: LinkedList<Option<Fates<T>>>,
 }

@@ -25,10 +25,10 @@ fn count_right(fates: &Fates<u64>, first: u64) -> u64 {
     right
 }
 
-/// The segment whose fates are told next, and how many of them are right. `first` is the value sent there first.
-fn next_fates(receiver: &mut Receiver<u64>, first: u64) -> Option<(usize, u64)> {
+/// How many of the fates that are told next are right. `first` is the value sent there first.
+fn next_fates(receiver: &mut Receiver<u64>, first: u64) -> Option<u64> {
     match receiver.try_fates() {
-        Audited::Told(fates) => Some((fates.place().segment, count_right(&fates, first))),
+        Audited::Told(fates) => Some(count_right(&fates, first)),
         Audited::Nothing => None,
         Audited::Again => None,
     }
@@ -57,7 +57,7 @@ fn fates_name_who_sent_and_who_received(rt: HostRuntime) -> Result<(), Fail> {
     let second = next_fates(&mut other_receiver, 64);
     let third = next_fates(&mut receiver, 1088);
     let last = next_fates(&mut receiver, 2112);
-    assert!(rt; (early, last) == (None, None) && first == Some((0, 64)));
-    assert!(rt; (second, third) == (Some((1, 1024)), Some((2, 1024))));
+    assert!(rt; (early, last) == (None, None) && first == Some(64));
+    assert!(rt; (second, third) == (Some(1024), Some(1024)));
     Ok(())
 }

@@ -1,27 +1,14 @@
-use Rattle.std.proofs.Common.{ℕ, zero, suc, List, [], ◌∷◌, ap, arith, inl, length, map, refl, subst, sym, true≢false, ⊎_elim, ◌≡◌, ◌∙◌}
+use Rattle.std.proofs.Common.{ℕ, zero, suc, [], ◌∷◌, ap, arith, inl, length, map, refl, subst, sym, true≢false, ⊎_elim, ◌≡◌, ◌∙◌}
 use Rattle.std.specs.Option.{unwrap_or}
 use mathlib.Core.Option.{some, some-injective, some-ne-none}
 use lib.ListN.{get_elem?}
 use Rattle.mb_channel.specs.Types.{Knows}
 use Rattle.mb_channel.specs.Homes.{Sat, past_of}
 use Rattle.mb_channel.specs.Deeds.{Deed}
-use Rattle.mb_channel.specs.HomeSamples.{fate, place, seven}
+use Rattle.mb_channel.specs.HomeSamples.{place, seven}
 use Rattle.mb_channel.specs.Inside.{Log, log_of_past}
 use Rattle.mb_channel.specs.Fates.{IsOneOf}
 use Rattle.mb_channel.proofs.home_samples.sample_fates.Goals as goal
-
-pub returns-clause-kept : goal.returns-clause-kept
-returns-clause-kept c l m x on none_ more kept = (
-  on,
-  λ _. (let a = ap length none_ in let b = ap length kept in omega (arith, a, b, more)),
-)
-
-pub returns-clause-lost : goal.returns-clause-lost
-returns-clause-lost c l m on none_ more kept loses = let a = ap length none_ in let b = ap length kept in
-    let e = loses.1 on in absurd (omega (arith, a, b, more, e))
-
-pub returns-clause-off : goal.returns-clause-off
-returns-clause-off c h a x off kept keeps = let e = ap length (sym kept ∙ keeps.4 off) in absurd (omega (arith, e))
 
 only : (id : ℕ) (v : Knows ℕ) → get_elem? {A = Knows ℕ} (seven ∷ []) id ≡ some v → seven ≡ v
 only zero v at = some-injective seven v at

@@ -16,8 +16,7 @@ none_gone h items [] all none_ = let n = ap length all in absurd (omega (arith, 
 none_gone h items (g ∷ gs) all none_ = absurd (omega (arith, none_))
 
 pub returns-clause-freed : goal.returns-clause-freed
-returns-clause-freed c h l is one kept =
-    record { gone = h ∷ []; all = refl; number = sym one; freed = (is, tt); fates = kept }
+returns-clause-freed c h l is one = record { gone = h ∷ []; all = refl; number = sym one; freed = (is, tt) }
 
 pub returns-clause-undone : goal.returns-clause-undone
 returns-clause-undone c h l no_ one s = let n = s.number in

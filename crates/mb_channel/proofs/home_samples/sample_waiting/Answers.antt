@@ -18,11 +18,11 @@ pub returns-clause-added : goal.returns-clause-added
 returns-clause-added c h g looked = looked.1
 
 pub returns-clause-had : goal.returns-clause-had
-returns-clause-had c l first kept waiting = (
+returns-clause-had c l first waiting = (
   l,
   refl,
   l.list.items,
-  record { gone = []; all = refl; number = sym first; freed = tt; fates = kept },
+  record { gone = []; all = refl; number = sym first; freed = tt },
   looked_same l.list.items,
   waiting,
 )

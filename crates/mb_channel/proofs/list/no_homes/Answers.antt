@@ -8,5 +8,4 @@ returns g c = (
       (λ l. l ++ c.none.result ∷ []) c.new-homes.ensures.items,
   c.none.ensures.0,
   c.none.ensures.1,
-  c.none.ensures.2,
 )

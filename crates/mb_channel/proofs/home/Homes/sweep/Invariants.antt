@@ -1,14 +1,10 @@
 use Rattle.std.proofs.Common.{List, length}
-use Rattle.mb_channel.specs.Fates.{LosesNone}
 use Rattle.mb_channel.specs.Homes.{Stands}
 use Rattle.mb_channel.specs.declared.home.Home.{Home}
 use Rattle.mb_channel.proofs.home.Homes.sweep.Given as goal
 
 abbrev pub invariant-loop : goal.invariant-loop
-invariant-loop g l = record {
-  stands : (hs : List (Home _)) → Stands hs l.initial.self → Stands hs l.self;
-  kept : LosesNone l.initial.self l.self;
-}
+invariant-loop g l = (hs : List (Home _)) → Stands hs l.initial.self → Stands hs l.self
 
 abbrev pub decreases-loop : goal.decreases-loop
 decreases-loop g l = length l.self.list.items

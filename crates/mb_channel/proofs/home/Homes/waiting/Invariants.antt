@@ -4,6 +4,6 @@ use Rattle.mb_channel.proofs.home.Homes.waiting.Given as goal
 
 abbrev pub invariant-loop : goal.invariant-loop
 invariant-loop g l = record {
-  first : (l.self.first ≡ l.initial.self.first) × (l.self.audit ≡ l.initial.self.audit);
+  first : (l.self.first ≡ l.initial.self.first) × (l.self.audited ≡ l.initial.self.audited);
   looked : HaveLooked l.initial.self.list.items l.self.list.items;
 }

@@ -1,5 +1,4 @@
 use Rattle.std.proofs.Common.{sym, ap, ◌∙◌, subst}
-use Rattle.std.specs.Prelude.{Option, None, Some}
 use Rattle.mb_channel.specs.declared.view.Knows.{Knows}
 use Rattle.mb_channel.specs.Fates.{HasTaken}
 use Rattle.mb_channel.proofs.Audits.{after_taken, told_chair}

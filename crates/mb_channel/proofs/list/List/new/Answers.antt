@@ -7,5 +7,4 @@ use Rattle.mb_channel.proofs.list.List.new.Goals as goal
 
 pub new-requires : goal.new-requires
 new-requires g c = let x = c.in_ok-homes.ensures in
-    subst (λ (l : List (Homes _)). Keeps (opening (0 ∷ 1 ∷ 1 ∷ 1 ∷ 1 ∷ []) l first_view)) (sym x.1)
-    (opens x.0 x.2 x.3 x.4)
+    subst (λ (l : List (Homes _)). Keeps (opening (0 ∷ 1 ∷ 1 ∷ 1 ∷ 1 ∷ []) l first_view)) (sym x.1) (opens x.0 x.2 x.3)

@@ -21,7 +21,7 @@ returns-clause-taken g c = let t = c.requires.homes in
     let same = was c.args.chair.now.me.1 t.0 now t.1 c.slot_mut-homes.ensures.value in
     let s = subst (λ l. Stands t.2 l) (sym same) t.3 in
     let out = taken_out c.take_fates.result t.2 c.args.chair.now.me.0.before now c.take_fates.new.self s t.4
-    c.take_fates.ensures.some c.take_fates.ensures.none in (
+    c.take_fates.ensures.stands c.take_fates.ensures.some in (
       c.take_fates.new.self,
       only_one c.args.chair.now.me.1 t.0 c.take_fates.new.self t.1,
       out.0,
