@@ -13,7 +13,7 @@ use mb_script::shape_of_word;
 use std::alloc::{AllocError, Global};
 
 /// What `run` is asked for. The command line makes sure of the budget's range alone. `run_threads`
-/// refuses any other number that is out of its range.
+/// refuses each other number that is out of its range.
 #[derive(Clone, Copy, Debug, PartialEq, Eq, Hash)]
 pub struct Options {
     /// How many producers there are, 1 to 16.
