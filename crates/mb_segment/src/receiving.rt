@@ -118,6 +118,7 @@ impl<T: Drop, A: Allocator + Drop> Segment<T, A> {
 
     /// Takes the value of the position that the pass claimed. It is the one that was sent there. A pass that has a name
     /// adds it to the state. One access.
+    #[inline(always)]
     pub fn read(&self, pass: &mut Pass<T>, at: u64, name: u32) -> T
         requires segment { pass.old.seat.table_id ≡ self.now.table.shared.table_id }
         requires member { (view_in pass.old).role ≡ Member }
